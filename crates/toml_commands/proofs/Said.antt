@@ -1,13 +1,13 @@
 -- What is said of a refusal, by what the words name.
-use Rattle.std.proofs.Common.{◌≡◌, ◌≢◌, ◌≤◌, ◌<◌, ◌⊎◌, ℕ, Bool, List, Option, Vec, Bor, Result, Ok, Err, inl, inr, refl, sym, subst, arith}
+use Rattle.std.proofs.Common.{◌≡◌, ◌≢◌, ◌≤◌, ◌<◌, ◌⊎◌, ◌∷◌, ◌++◌, ◌∙◌, [], ℕ, Bool, List, Option, Vec, Bor, Result, Ok, Err, inl, inr, refl, sym, ap, subst, arith, append-nil}
 use Rattle.std.specs.Prelude.{IfOk}
 use Rattle.std.specs.declared.alloc.Global.{Global}
 use Rattle.toml_tree.specs.declared.profile.Profile.{Profile}
 use Rattle.toml_names.specs.model.Documents.{IsDocumentIn}
 use Rattle.toml_checker.specs.declared.verdict.Reason.{Reason}
 use Rattle.toml_checker.specs.declared.verdict.Reason.TheVariants.{BeforeRefused, AfterRefused, EditsRefused, OtherData, BadPair, Lost, Unasked, NewComment, NotTheSame}
-use Rattle.toml_explain.specs.Documents.{OpensAs}
-use Rattle.toml_explain.specs.Openings.{OpensBare, OpensInFile, OpensPlace}
+use Rattle.toml_explain.specs.Documents.{OpensAs, ShowsInFile, ShowsMoreInFile}
+use Rattle.toml_explain.specs.Openings.{OpensBare, OpensPlace}
 use Rattle.toml_explain.specs.Reasons.{told_of}
 use Rattle.toml_explain.specs.declared.input.Input.{Input}
 use Rattle.toml_words.specs.declared.request.Destination.{Destination}
@@ -41,36 +41,39 @@ module _ {S E : Type 0} (f : S → List ℕ) (inputs : List (Vec ℕ Global)) (p
   module _ (r : Refusal) (word bytes : List ℕ) where
     pub at_place : (place : List ℕ) (t : Result S E) → (r.code ≡ 340 → IfOk t (λ x. OpensPlace place r.place (f x)))
         → (r.code < 300 → IfOk t (λ x. OpensAs profile word bytes r.code r.place (f x)))
-        → (300 ≤ r.code → r.code ≢ 340 → IfOk t (λ x. OpensInFile word bytes (f x))) → IfOk t (λ x. IsSaidAtPlace profile word bytes place r (f x))
-    at_place place (Ok x) p q s = record { no_place = p; no_document = q; in_file = s }
-    at_place place (Err e) p q s = tt
+        → (r.code ≡ 306 → IfOk t (λ x. ShowsMoreInFile word bytes (f x)))
+        → (300 ≤ r.code → r.code ≢ 306 → r.code ≢ 340 → IfOk t (λ x. ShowsInFile word bytes (f x))) → IfOk t (λ x. IsSaidAtPlace profile word bytes place r (f x))
+    at_place place (Ok x) p q v s = record { no_place = p; no_document = q; value = v; in_file = s }
+    at_place place (Err e) p q v s = tt
 
     pub of_list : (list : List ℕ) (t : Result S E) → ((r.code ≡ 320) ⊎ (r.code ≡ 321) → IfOk t (λ x. OpensBare list (f x)))
         → (r.code < 300 → IfOk t (λ x. OpensAs profile word bytes r.code r.place (f x)))
-        → (300 ≤ r.code → r.code ≢ 320 → r.code ≢ 321 → IfOk t (λ x. OpensInFile word bytes (f x))) → IfOk t (λ x. IsSaidOfList profile word bytes list r (f x))
-    of_list list (Ok x) p q s = record { no_list = p; no_document = q; in_file = s }
-    of_list list (Err e) p q s = tt
+        → (r.code ≡ 306 → IfOk t (λ x. ShowsMoreInFile word bytes (f x)))
+        → (300 ≤ r.code → r.code ≢ 306 → r.code ≢ 320 → r.code ≢ 321 → IfOk t (λ x. ShowsInFile word bytes (f x))) → IfOk t (λ x. IsSaidOfList profile word bytes list r (f x))
+    of_list list (Ok x) p q v s = record { no_list = p; no_document = q; value = v; in_file = s }
+    of_list list (Err e) p q v s = tt
 
   -- by the judge's reason
   module _ (words : JudgedWords) where
-    of_input : (file : Input) (word : Bor (List ℕ)) (n : ℕ) → file.word.now ≡ word.now → file.bytes.now ≡ bytes_at inputs n → (t : Result S E)
-        → IfOk t (λ x. OpensInFile file.word.now file.bytes.now (f x)) → IfOk t (λ x. OpensInFile word.now (bytes_at inputs n) (f x))
-    of_input file word n p q t h =
-        subst (λ w. IfOk t (λ x. OpensInFile w (bytes_at inputs n) (f x))) p (subst (λ b. IfOk t (λ x. OpensInFile file.word.now b (f x))) q h)
+    of_input : (P : List ℕ → List ℕ → List ℕ → Type 0) (file : Input) (word : Bor (List ℕ)) (n : ℕ) → file.word.now ≡ word.now → file.bytes.now ≡ bytes_at inputs n → (t : Result S E)
+        → IfOk t (λ x. P file.word.now file.bytes.now (f x)) → IfOk t (λ x. P word.now (bytes_at inputs n) (f x))
+    of_input P file word n p q t h =
+        subst (λ w. IfOk t (λ x. P w (bytes_at inputs n) (f x))) p (subst (λ b. IfOk t (λ x. P file.word.now b (f x))) q h)
 
-    pub of_texts : (reason : Reason) (before after : Input) → before.word.now ≡ words.before.now → before.bytes.now ≡ bytes_at inputs 0
-        → after.word.now ≡ words.after.now → after.bytes.now ≡ bytes_at inputs 2 → (t : Result S E)
-        → IfOk t (λ x. OpensInFile (told_of before after reason).word.now (told_of before after reason).bytes.now (f x)) → reason ≢ BeforeRefused
-        → reason ≢ AfterRefused → IfOk t (λ x. IsSaidOfReason profile words inputs reason (f x))
-    of_texts BeforeRefused before after p q u v t h not_before not_after = absurd (not_before refl)
-    of_texts AfterRefused before after p q u v t h not_before not_after = absurd (not_after refl)
-    of_texts EditsRefused before after p q u v t h not_before not_after = of_input before words.before 0 p q t h
-    of_texts Lost before after p q u v t h not_before not_after = of_input before words.before 0 p q t h
-    of_texts OtherData before after p q u v t h not_before not_after = of_input after words.after 2 u v t h
-    of_texts BadPair before after p q u v t h not_before not_after = of_input after words.after 2 u v t h
-    of_texts Unasked before after p q u v t h not_before not_after = of_input after words.after 2 u v t h
-    of_texts NewComment before after p q u v t h not_before not_after = of_input after words.after 2 u v t h
-    of_texts NotTheSame before after p q u v t h not_before not_after = of_input after words.after 2 u v t h
+    module _ (before after : Input) (p : before.word.now ≡ words.before.now) (q : before.bytes.now ≡ bytes_at inputs 0)
+        (u : after.word.now ≡ words.after.now) (v : after.bytes.now ≡ bytes_at inputs 2) (t : Result S E) where
+      pub of_texts : (reason : Reason) → (reason ≢ EditsRefused → IfOk t (λ x. ShowsInFile (told_of before after reason).word.now (told_of before after reason).bytes.now (f x)))
+          → (reason ≡ EditsRefused → IfOk t (λ x. ShowsMoreInFile before.word.now before.bytes.now (f x)))
+          → reason ≢ BeforeRefused → reason ≢ AfterRefused → IfOk t (λ x. IsSaidOfReason profile words inputs reason (f x))
+      of_texts BeforeRefused h g not_before not_after = absurd (not_before refl)
+      of_texts AfterRefused h g not_before not_after = absurd (not_after refl)
+      of_texts EditsRefused h g not_before not_after = of_input ShowsMoreInFile before words.before 0 p q t (g refl)
+      of_texts Lost h g not_before not_after = of_input ShowsInFile before words.before 0 p q t (h (λ e. cc))
+      of_texts OtherData h g not_before not_after = of_input ShowsInFile after words.after 2 u v t (h (λ e. cc))
+      of_texts BadPair h g not_before not_after = of_input ShowsInFile after words.after 2 u v t (h (λ e. cc))
+      of_texts Unasked h g not_before not_after = of_input ShowsInFile after words.after 2 u v t (h (λ e. cc))
+      of_texts NewComment h g not_before not_after = of_input ShowsInFile after words.after 2 u v t (h (λ e. cc))
+      of_texts NotTheSame h g not_before not_after = of_input ShowsInFile after words.after 2 u v t (h (λ e. cc))
 
     pub of_before_refused : (reason : Reason) → reason ≡ BeforeRefused → (w b : List ℕ) → w ≡ words.before.now → b ≡ bytes_at inputs 0 → (t : Result S E)
         → IfOk t (λ x. IsSaidOfText profile w b (f x)) → IfOk t (λ x. IsSaidOfReason profile words inputs reason (f x))
@@ -125,9 +128,10 @@ module _ {S E : Type 0} (f : S → List ℕ) (t : Result S E) (request : Request
 
     module _ (place : Bor (List ℕ)) (no_place : r.code ≡ 340 → IfOk t (λ x. OpensPlace place.now r.place (f x)))
         (no_document : r.code < 300 → IfOk t (λ x. OpensAs profile w b r.code r.place (f x)))
-        (in_file : 300 ≤ r.code → r.code ≢ 340 → IfOk t (λ x. OpensInFile w b (f x))) where
+        (value : r.code ≡ 306 → IfOk t (λ x. ShowsMoreInFile w b (f x)))
+        (in_file : 300 ≤ r.code → r.code ≢ 306 → r.code ≢ 340 → IfOk t (λ x. ShowsInFile w b (f x))) where
       said : IfOk t (λ x. IsSaidAtPlace profile file.now (bytes_at inputs 0) place.now r (f x))
-      said = moved (λ v c x. IsSaidAtPlace profile v c place.now r (f x)) (at_place f inputs profile r w b place.now t no_place no_document in_file)
+      said = moved (λ v c x. IsSaidAtPlace profile v c place.now r (f x)) (at_place f inputs profile r w b place.now t no_place no_document value in_file)
 
       pub of_get : (form : Form) (default : Option (Bor (List ℕ))) → request ≡ requests.Get file place form default profile → IfOk t (λ x. IsSaid request inputs r (f x))
       of_get form default is = by_request (requests.Get file place form default profile) is said
@@ -137,14 +141,25 @@ module _ {S E : Type 0} (f : S → List ℕ) (t : Result S E) (request : Request
 
     module _ (list : Bor (List ℕ)) (l : List ℕ) (list_is : l ≡ list.now) (no_list : (r.code ≡ 320) ⊎ (r.code ≡ 321) → IfOk t (λ x. OpensBare l (f x)))
         (no_document : r.code < 300 → IfOk t (λ x. OpensAs profile w b r.code r.place (f x)))
-        (in_file : 300 ≤ r.code → r.code ≢ 320 → r.code ≢ 321 → IfOk t (λ x. OpensInFile w b (f x))) where
+        (value : r.code ≡ 306 → IfOk t (λ x. ShowsMoreInFile w b (f x)))
+        (in_file : 300 ≤ r.code → r.code ≢ 306 → r.code ≢ 320 → r.code ≢ 321 → IfOk t (λ x. ShowsInFile w b (f x))) where
       listed_said : IfOk t (λ x. IsSaidOfList profile file.now (bytes_at inputs 0) list.now r (f x))
       listed_said =
           subst (λ k. IfOk t (λ x. IsSaidOfList profile file.now (bytes_at inputs 0) k r (f x))) list_is
-          (moved (λ v c x. IsSaidOfList profile v c l r (f x)) (of_list f inputs profile r w b l t no_list no_document in_file))
+          (moved (λ v c x. IsSaidOfList profile v c l r (f x)) (of_list f inputs profile r w b l t no_list no_document value in_file))
 
       pub of_edit : (out cert : Bor (List ℕ)) (explain : Bool) → request ≡ requests.Edit file list out cert explain profile → IfOk t (λ x. IsSaid request inputs r (f x))
       of_edit out cert explain is = by_request (requests.Edit file list out cert explain profile) is listed_said
 
       pub of_apply : (destination : Destination) (layout : Layout) → request ≡ requests.Apply file list destination layout profile → IfOk t (λ x. IsSaid request inputs r (f x))
       of_apply destination layout is = by_request (requests.Apply file list destination layout profile) is listed_said
+
+-- with nothing behind the line
+shows_more : (word bytes text : List ℕ) → ShowsInFile word bytes text → ShowsMoreInFile word bytes text
+shows_more word bytes text (inl (at, opens, e)) =
+    inl (at, opens, record { front = e.front; shown = e.shown; line = e.line; rest = []; has = e.ends ∙ ap (λ l. e.front ++ 0x0A ∷ l) (sym (append-nil _)) })
+shows_more word bytes text (inr opens) = inr opens
+
+pub more_shown : {S E : Type 0} (f : S → List ℕ) (word bytes : List ℕ) (t : Result S E) → IfOk t (λ x. ShowsInFile word bytes (f x)) → IfOk t (λ x. ShowsMoreInFile word bytes (f x))
+more_shown f word bytes (Ok x) h = shows_more word bytes (f x) h
+more_shown f word bytes (Err e) h = tt

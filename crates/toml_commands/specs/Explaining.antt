@@ -8,9 +8,9 @@ use Rattle.std.specs.declared.alloc.Global.{Global}
 use Rattle.toml_tree.specs.declared.profile.Profile.{Profile}
 use Rattle.toml_checker.specs.declared.verdict.Reason.{Reason}
 use Rattle.toml_checker.specs.declared.verdict.Reason.TheVariants.{BeforeRefused, AfterRefused, EditsRefused, OtherData, BadPair, Lost, Unasked, NewComment, NotTheSame}
-use Rattle.toml_explain.specs.Documents.{OpensAs}
+use Rattle.toml_explain.specs.Documents.{OpensAs, ShowsInFile, ShowsMoreInFile}
 use Rattle.toml_explain.specs.declared.input.Input.{Input}
-use Rattle.toml_explain.specs.Openings.{OpensBare, OpensInFile, OpensPlace}
+use Rattle.toml_explain.specs.Openings.{OpensBare, OpensPlace}
 use Rattle.toml_names.specs.model.Documents.{IsDocumentIn}
 use Rattle.toml_words.specs.Request.{Asked, show, check, edit, verify, asked_by}
 use Rattle.toml_words.specs.declared.request.Request.{Request}
@@ -56,21 +56,28 @@ ExplainsList list r told = (r.code ≡ 320) ⊎ (r.code ≡ 321) → IfOk told (
 abbrev pub ExplainsDocument : Profile → Input → Refusal → Result (String Global) AllocError → Type 0
 ExplainsDocument profile file r told = r.code < 300 → IfOk told (λ text. OpensAs profile file.word.now file.bytes.now r.code r.place (string_bytes text))
 
--- or of FILE
+-- of FILE, with the line of the place that is told,
 abbrev pub ExplainsFile : Input → Result (String Global) AllocError → Type 0
-ExplainsFile file told = IfOk told (λ text. OpensInFile file.word.now file.bytes.now (string_bytes text))
+ExplainsFile file told = IfOk told (λ text. ShowsInFile file.word.now file.bytes.now (string_bytes text))
 
--- of a command with a PLACE: of that, of FILE as the refusal of a document asks, or else of FILE
+-- or so, with a value that is none behind the line
+abbrev pub ExplainsValue : Input → Refusal → Result (String Global) AllocError → Type 0
+ExplainsValue file r told = r.code ≡ 306 → IfOk told (λ text. ShowsMoreInFile file.word.now file.bytes.now (string_bytes text))
+
+-- of a command with a PLACE: of that, of FILE as the refusal of a document asks, or else of FILE, with the line of the place that is told,
+-- behind which more stands of a value that is none
 pub record IsSaidAtPlace (profile : Profile) (word bytes place : List ℕ) (r : Refusal) (text : List ℕ) : Type 0 where
   pub no_place : r.code ≡ 340 → OpensPlace place r.place text
   pub no_document : r.code < 300 → OpensAs profile word bytes r.code r.place text
-  pub in_file : 300 ≤ r.code → r.code ≢ 340 → OpensInFile word bytes text
+  pub value : r.code ≡ 306 → ShowsMoreInFile word bytes text
+  pub in_file : 300 ≤ r.code → r.code ≢ 306 → r.code ≢ 340 → ShowsInFile word bytes text
 
--- of a command with EDITS: of that, of FILE as the refusal of a document asks, or else of FILE
+-- so of a command with EDITS: of that, of FILE as the refusal of a document asks, or else of FILE
 pub record IsSaidOfList (profile : Profile) (word bytes list : List ℕ) (r : Refusal) (text : List ℕ) : Type 0 where
   pub no_list : (r.code ≡ 320) ⊎ (r.code ≡ 321) → OpensBare list text
   pub no_document : r.code < 300 → OpensAs profile word bytes r.code r.place text
-  pub in_file : 300 ≤ r.code → r.code ≢ 320 → r.code ≢ 321 → OpensInFile word bytes text
+  pub value : r.code ≡ 306 → ShowsMoreInFile word bytes text
+  pub in_file : 300 ≤ r.code → r.code ≢ 306 → r.code ≢ 320 → r.code ≢ 321 → ShowsInFile word bytes text
 
 -- of a text that is to be a document, as its refusal asks
 abbrev pub IsSaidOfText : Profile → List ℕ → List ℕ → List ℕ → Type 0
@@ -86,13 +93,13 @@ IsSaidOfEnding profile word bytes NoMemory text = ⊥
 abbrev pub IsSaidOfReason : Profile → JudgedWords → List (Vec ℕ Global) → Reason → List ℕ → Type 0
 IsSaidOfReason profile words inputs BeforeRefused text = IsSaidOfText profile words.before.now (bytes_at inputs 0) text
 IsSaidOfReason profile words inputs AfterRefused text = IsSaidOfText profile words.after.now (bytes_at inputs 2) text
-IsSaidOfReason profile words inputs EditsRefused text = OpensInFile words.before.now (bytes_at inputs 0) text
-IsSaidOfReason profile words inputs Lost text = OpensInFile words.before.now (bytes_at inputs 0) text
-IsSaidOfReason profile words inputs OtherData text = OpensInFile words.after.now (bytes_at inputs 2) text
-IsSaidOfReason profile words inputs BadPair text = OpensInFile words.after.now (bytes_at inputs 2) text
-IsSaidOfReason profile words inputs Unasked text = OpensInFile words.after.now (bytes_at inputs 2) text
-IsSaidOfReason profile words inputs NewComment text = OpensInFile words.after.now (bytes_at inputs 2) text
-IsSaidOfReason profile words inputs NotTheSame text = OpensInFile words.after.now (bytes_at inputs 2) text
+IsSaidOfReason profile words inputs EditsRefused text = ShowsMoreInFile words.before.now (bytes_at inputs 0) text
+IsSaidOfReason profile words inputs Lost text = ShowsInFile words.before.now (bytes_at inputs 0) text
+IsSaidOfReason profile words inputs OtherData text = ShowsInFile words.after.now (bytes_at inputs 2) text
+IsSaidOfReason profile words inputs BadPair text = ShowsInFile words.after.now (bytes_at inputs 2) text
+IsSaidOfReason profile words inputs Unasked text = ShowsInFile words.after.now (bytes_at inputs 2) text
+IsSaidOfReason profile words inputs NewComment text = ShowsInFile words.after.now (bytes_at inputs 2) text
+IsSaidOfReason profile words inputs NotTheSame text = ShowsInFile words.after.now (bytes_at inputs 2) text
 
 -- the word of the certificate that is none (330), or else that of the edits
 abbrev pub list_word : JudgedWords → ℕ → List ℕ

@@ -2,7 +2,7 @@
 ghost use Rattle.std.specs.Prelude.{◌≡◌, ◌≢◌, ◌<◌, ◌≤◌, ◌↔◌, IfOk, IsTrue, string_bytes};
 ghost use Rattle.toml_explain.specs.Documents.{OpensAs};
 ghost use Rattle.toml_words.specs.Request.{asked_by};
-ghost use Rattle.toml_commands.specs.Explaining.{ExplainsDocument, ExplainsFile, ExplainsList, ExplainsPlace};
+ghost use Rattle.toml_commands.specs.Explaining.{ExplainsDocument, ExplainsFile, ExplainsList, ExplainsPlace, ExplainsValue};
 ghost use Rattle.toml_commands.specs.Explaining.{HasSaid, IsExplained, IsExplainedText, IsSaid, bytes_at, explains};
 
 use crate::edit_list::edits_listed;
@@ -14,8 +14,8 @@ use toml_checker::Reason;
 use toml_delivery::{Outcome, Refusal};
 use toml_edits::{Edit, place};
 use toml_explain::{
-    Input, explain_absent, explain_document, explain_edit, explain_list, explain_place,
-    explain_unverified,
+    Input, explain_absent, explain_document, explain_edit, explain_list, explain_nowhere,
+    explain_place, explain_unverified,
 };
 use toml_names::Step;
 use toml_tree::Profile;
@@ -201,7 +201,8 @@ fn of_get(
 ) -> Result<String, AllocError>
     ensures no_place { ExplainsPlace place.now refusal result }
     ensures no_document { ExplainsDocument profile file.entry refusal result }
-    ensures in_file { 300 ≤ refusal.code → refusal.code ≢ 340 → ExplainsFile file.entry result }
+    ensures value { ExplainsValue file.entry refusal result }
+    ensures in_file { 300 ≤ refusal.code → refusal.code ≢ 306 → refusal.code ≢ 340 → ExplainsFile file.entry result }
 {
     if refusal.code == 340 {
         return explain_place(alloc, place, refusal.place);
@@ -230,7 +231,8 @@ fn of_one(
 ) -> Result<String, AllocError>
     ensures no_place { ExplainsPlace place.now refusal result }
     ensures no_document { ExplainsDocument profile file.entry refusal result }
-    ensures in_file { 300 ≤ refusal.code → refusal.code ≢ 340 → ExplainsFile file.entry result }
+    ensures value { ExplainsValue file.entry refusal result }
+    ensures in_file { 300 ≤ refusal.code → refusal.code ≢ 306 → refusal.code ≢ 340 → ExplainsFile file.entry result }
 {
     if refusal.code == 340 {
         return explain_place(alloc, place, refusal.place);
@@ -242,8 +244,16 @@ fn of_one(
         return unverified(alloc, file, refusal);
     }
     let edits = edits_of_words(alloc, file.bytes, place, edit, profile)?;
-    if refusal.code == 301 && leads_nowhere(&edits, refusal.place) {
-        return explain_absent(alloc, file, place, refusal.code, profile);
+    if leads_nowhere(&edits, refusal.place) {
+        return explain_nowhere(
+            alloc,
+            file,
+            place,
+            &edits,
+            refusal.place,
+            refusal.code,
+            profile,
+        );
     }
     let hint = hint(edit, &edits);
     explain_edit(
@@ -308,7 +318,8 @@ fn of_list(
 ) -> Result<String, AllocError>
     ensures no_list { ExplainsList list.entry refusal result }
     ensures no_document { ExplainsDocument profile file.entry refusal result }
-    ensures in_file { 300 ≤ refusal.code → refusal.code ≢ 320 → refusal.code ≢ 321 → ExplainsFile file.entry result }
+    ensures value { ExplainsValue file.entry refusal result }
+    ensures in_file { 300 ≤ refusal.code → refusal.code ≢ 306 → refusal.code ≢ 320 → refusal.code ≢ 321 → ExplainsFile file.entry result }
 {
     if refusal.code == 320 || refusal.code == 321 {
         return explain_list(alloc, list.word, refusal.code, refusal.place);

@@ -1,5 +1,6 @@
 pub mod Held
 pub mod Lines
+pub mod Glyphs
 pub mod Opened
 pub mod Fronts
 pub mod Shown

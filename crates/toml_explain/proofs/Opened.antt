@@ -1,13 +1,14 @@
 -- How what is told begins.
-use Rattle.std.proofs.Common.{◌≡◌, ◌≢◌, ◌-◌, ℕ, List, ◌++◌, length, Option, Some, inl, inr, subst, arith}
+use Rattle.std.proofs.Common.{◌≡◌, ◌≢◌, ◌-◌, ◌==◌, ℕ, true, false, refl, List, [], ◌∷◌, ◌++◌, length, Option, Some, inl, inr, sym, ap, ◌∙◌, subst, arith, append-nil}
 use Rattle.std.specs.Prelude.{Result, Ok, Err, IfOk, max, min}
+use Rattle.std.proofs.lemmas.Bool.{eqb-false, eqb-true}
 use Rattle.toml_text.specs.declared.span.Position.{Position}
 use Rattle.toml_text.specs.Positions.{IsPosition}
 use Rattle.toml_tree.specs.Tree.{Piece}
 use Rattle.toml_tree.specs.declared.profile.Profile.{Profile}
 use Rattle.toml_mentions.specs.Mentioned.{StandsForOffence}
-use Rattle.toml_explain.specs.Documents.{AreSpansAt, AreSpansOf, HasLine, OpensAs, OpensAtKey, OpensAtOffence, OpensInLine, ShowsClash, ShowsInFile, ShowsKey}
-use Rattle.toml_explain.specs.Excerpts.{EndsInLine}
+use Rattle.toml_explain.specs.Documents.{AreSpansAt, AreSpansOf, HasLine, OpensAs, OpensAtKey, OpensAtOffence, OpensInLine, ShowsClash, ShowsInFile, ShowsKey, ShowsMoreInFile}
+use Rattle.toml_explain.specs.Excerpts.{EndsInLine, HasLineOf}
 use Rattle.toml_explain.specs.Openings.{EndsIn, OpensAt, OpensBare, OpensInFile, opening, bare_opening}
 use Rattle.toml_explain.specs.declared.spans.LineSpans.{LineSpans}
 use Rattle.toml_explain.proofs.Lines.{ends_behind, part_held}
@@ -24,6 +25,12 @@ module _ {S E : Type 0} (f : S → List ℕ) (word rest : List ℕ) where
   pub bare_opens : (r : Result S E) → IfOk r (λ t. f t ≡ bare_opening word ++ rest) → IfOk r (λ t. OpensBare word (f t))
   bare_opens (Ok t) e = record { rest = rest; begins = e }
   bare_opens (Err d) e = tt
+
+-- with nothing behind it
+no_more : (word bytes text : List ℕ) → ShowsInFile word bytes text → ShowsMoreInFile word bytes text
+no_more word bytes text (inl (at, opens, e)) =
+    inl (at, opens, record { front = e.front; shown = e.shown; line = e.line; rest = []; has = e.ends ∙ ap (λ l. e.front ++ 0x0A ∷ l) (sym (append-nil _)) })
+no_more word bytes text (inr opens) = inr opens
 
 module _ {S E : Type 0} (f : S → List ℕ) (word bytes : List ℕ) where
   -- at some place, or at none
@@ -43,6 +50,26 @@ module _ {S E : Type 0} (f : S → List ℕ) (word bytes : List ℕ) where
   pub bare_shows : (r : Result S E) → IfOk r (λ t. OpensBare word (f t)) → IfOk r (λ t. ShowsInFile word bytes (f t))
   bare_shows (Ok t) opens = inr opens
   bare_shows (Err d) opens = tt
+
+  pub more_at : (at : ℕ) (r : Result S E) → IfOk r (λ t. OpensAt word bytes at (f t)) → IfOk r (λ t. HasLineOf bytes at (f t)) → IfOk r (λ t. ShowsMoreInFile word bytes (f t))
+  more_at at (Ok t) opens line = inl (at, opens, line)
+  more_at at (Err d) opens line = tt
+
+  pub bare_more : (r : Result S E) → IfOk r (λ t. OpensBare word (f t)) → IfOk r (λ t. ShowsMoreInFile word bytes (f t))
+  bare_more (Ok t) opens = inr opens
+  bare_more (Err d) opens = tt
+
+  pub shows_more : (r : Result S E) → IfOk r (λ t. ShowsInFile word bytes (f t)) → IfOk r (λ t. ShowsMoreInFile word bytes (f t))
+  shows_more (Ok t) h = no_more word bytes (f t) h
+  shows_more (Err d) h = tt
+
+  pub more_by : (code : ℕ) (r : Result S E) → (code ≡ 306 → IfOk r (λ t. ShowsMoreInFile word bytes (f t))) → (code ≢ 306 → IfOk r (λ t. ShowsInFile word bytes (f t)))
+      → IfOk r (λ t. ShowsMoreInFile word bytes (f t))
+  more_by code r same other =
+      elim (code == 306) as (λ t. (code == 306) ≡ t → IfOk r (λ t. ShowsMoreInFile word bytes (f t))) [
+        | true ↦ λ e. same (eqb-true code 306 e)
+        | false ↦ λ e. shows_more r (other (eqb-false code 306 e))
+      ] refl
 
   -- by the code of a refusal
   module _ (profile : Profile) (code place : ℕ) where

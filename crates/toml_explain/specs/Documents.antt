@@ -14,12 +14,16 @@ use Rattle.toml_mentions.specs.Sought.{Sight}
 use Rattle.toml_mentions.specs.declared.redefined.Redefined.{Redefined}
 use Rattle.toml_units.specs.Ends.{expr_end}
 use Rattle.toml_explain.specs.declared.spans.LineSpans.{LineSpans}
-use Rattle.toml_explain.specs.Excerpts.{EndsInBoth, EndsInLine}
+use Rattle.toml_explain.specs.Excerpts.{EndsInBoth, EndsInLine, HasLineOf}
 use Rattle.toml_explain.specs.Openings.{OpensAt, OpensBare, OpensInFile}
 
 -- The text begins with the line and the column of a place of the bytes, and ends in the line of that place; or it begins with the word alone.
 abbrev pub ShowsInFile : List ℕ → List ℕ → List ℕ → Type 0
 ShowsInFile word bytes text = ((at : ℕ) × OpensAt word bytes at text × EndsInLine bytes at text) ⊎ OpensBare word text
+
+-- So it begins, and has the line of that place, with more behind it.
+abbrev pub ShowsMoreInFile : List ℕ → List ℕ → List ℕ → Type 0
+ShowsMoreInFile word bytes text = ((at : ℕ) × OpensAt word bytes at text × HasLineOf bytes at text) ⊎ OpensBare word text
 
 -- the line of a text of the profile that has the number, from 0
 pub record HasLine (profile : Profile) (bytes : List ℕ) (number : ℕ) (l : Line) : Type 0 where

@@ -2,6 +2,7 @@
 use Rattle.std.specs.Prelude.{◌≡◌, ◌≢◌, ◌+◌, ◌-◌, ◌==◌, ℕ, List, [], ◌∷◌, ◌++◌, codes, count_by, decimal, if◌then◌else◌, length, min, replicate, string_bytes, take}
 use Rattle.std.specs.List.{AllByRecursion}
 use Rattle.toml_text.specs.Positions.{is_lf}
+use Rattle.toml_explain.specs.Shown.{ShowsLine, ShowsRun}
 use Rattle.toml_explain.specs.declared.drawing.Drawing.{Drawing}
 use Rattle.toml_explain.specs.declared.excerpt.Excerpt.{Excerpt}
 
@@ -57,7 +58,8 @@ both_lines bytes first again one other =
 
 -- these lines are shown, and no more
 abbrev pub ShowsBoth : List ℕ → ℕ → ℕ → List ℕ → Type 0
-ShowsBoth bytes first again shown = (one other : Drawn) × (shown ≡ both_lines bytes first again one other)
+ShowsBoth bytes first again shown =
+    (one other : Drawn) × ShowsLine bytes again one.line × ShowsLine bytes first other.line × (shown ≡ both_lines bytes first again one other)
 
 -- the text ends in these lines, behind a newline
 pub record EndsInBoth (bytes : List ℕ) (first again : ℕ) (text : List ℕ) : Type 0 where
@@ -66,20 +68,39 @@ pub record EndsInBoth (bytes : List ℕ) (first again : ℕ) (text : List ℕ) :
   pub lines : ShowsBoth bytes first again shown
   pub ends : text ≡ front ++ 0x0A ∷ shown
 
--- the text ends in a line behind this number, and carets below it, behind a newline
-pub record EndsInNumbered (number : ℕ) (text : List ℕ) : Type 0 where
+-- a line behind its number, and carets below it
+abbrev pub numbered : ℕ → Drawn → List ℕ
+numbered number d = labelled (length (decimal number)) (decimal number) d.line d.carets []
+
+-- The text ends in the line in which the place of the bytes stands, behind its number, and carets below it, behind a newline.
+pub record EndsInLine (bytes : List ℕ) (at : ℕ) (text : List ℕ) : Type 0 where
   pub front : List ℕ
   pub shown : Drawn
-  pub ends : text ≡ front ++ 0x0A ∷ labelled (length (decimal number)) (decimal number) shown.line shown.carets []
+  pub line : ShowsLine bytes at shown.line
+  pub ends : text ≡ front ++ 0x0A ∷ numbered (line_number bytes at) shown
 
--- it ends in the line in which the place of the bytes stands, by its number
-abbrev pub EndsInLine : List ℕ → ℕ → List ℕ → Type 0
-EndsInLine bytes at = EndsInNumbered (line_number bytes at)
+-- it has this line, and more behind it
+pub record HasLineOf (bytes : List ℕ) (at : ℕ) (text : List ℕ) : Type 0 where
+  pub front : List ℕ
+  pub shown : Drawn
+  pub line : ShowsLine bytes at shown.line
+  pub rest : List ℕ
+  pub has : text ≡ front ++ 0x0A ∷ (numbered (line_number bytes at) shown ++ rest)
 
 -- Words of the code's own contracts. A drawing is one line, and so are its carets.
 pub record IsDrawn (d : Drawing) : Type 0 where
   pub line : IsOneLine (string_bytes d.text)
   pub carets : IsOneLine (string_bytes d.below)
+
+-- the drawing of a line
+pub record IsDrawnOf (line : List ℕ) (d : Drawing) : Type 0 where
+  pub drawn : IsDrawn d
+  pub run : ShowsRun line (string_bytes d.text)
+
+-- of the line in which a place of the bytes stands
+pub record IsDrawnAt (bytes : List ℕ) (at : ℕ) (d : Drawing) : Type 0 where
+  pub drawn : IsDrawn d
+  pub line : ShowsLine bytes at (string_bytes d.text)
 
 -- the excerpt got these bytes more
 pub record Gains (old new : Excerpt) (more : List ℕ) : Type 0 where
@@ -89,8 +110,12 @@ pub record Gains (old new : Excerpt) (more : List ℕ) : Type 0 where
 -- it got a line more, in which the place of the bytes stands
 abbrev pub GainsLine : Excerpt → Excerpt → List ℕ → ℕ → List ℕ → Type 0
 GainsLine old new bytes at note =
-    (d : Drawn) × Gains old new (labelled old.width (decimal (line_number bytes at)) d.line d.carets note)
+    (d : Drawn) × ShowsLine bytes at d.line × Gains old new (labelled old.width (decimal (line_number bytes at)) d.line d.carets note)
 
--- it got carets more
-abbrev pub GainsCarets : Excerpt → Excerpt → List ℕ → Type 0
-GainsCarets old new note = (d : Drawn) × Gains old new (below_line old.width d.carets note)
+-- it got carets more, below that line
+abbrev pub GainsCarets : Excerpt → Excerpt → List ℕ → ℕ → List ℕ → Type 0
+GainsCarets old new bytes at note = (d : Drawn) × ShowsLine bytes at d.line × Gains old new (below_line old.width d.carets note)
+
+-- it got something more
+abbrev pub GainsMore : Excerpt → Excerpt → Type 0
+GainsMore old new = (more : List ℕ) × Gains old new more

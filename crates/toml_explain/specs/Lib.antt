@@ -1,4 +1,5 @@
 pub mod Openings
+pub mod Shown
 pub mod Excerpts
 pub mod Documents
 pub mod Reasons

@@ -1,7 +1,6 @@
 //! Places of a document at which nothing stands that is asked for.
 ghost use Rattle.std.specs.Prelude.{IfOk, string_bytes};
 ghost use Rattle.toml_explain.specs.Documents.{ShowsInFile};
-ghost use Rattle.toml_explain.specs.Openings.{OpensInFile};
 
 use crate::edit::look_up;
 use crate::input::Input;
@@ -9,44 +8,42 @@ use crate::place::shown_place;
 use crate::standing::question;
 use crate::telling::told_at;
 use std::alloc::{AllocError, Global};
-use toml_names::{Step, names_of_text};
-use toml_places::{Place, PlaceFault, PlaceStep, read_place};
+use toml_names::{NamedText, Step, names_of_text};
+use toml_places::{Place, PlaceFault, part_in, read_place, step_in};
 use toml_text::Source;
 use toml_tree::Profile;
 
-/// The steps of a place before the first that is counted from the end of an array.
-fn plain_steps(alloc: Global, place: &Place) -> Result<Vec<Step>, AllocError> {
-    let mut steps = Vec::new(alloc);
-    for step in place.steps() {
-        match step {
-            PlaceStep::Name(name) => steps.push(Step::Name(name.copy()?))?,
-            PlaceStep::Index(index) => steps.push(Step::Index(*index))?,
-            PlaceStep::FromEnd(_) | PlaceStep::Behind => return Ok(steps),
-        }
-    }
-    Ok(steps)
-}
-
-/// The steps to which a place leads in a text; where it leads nowhere, its plain ones.
-fn steps_of(
+/// The steps to which a place leads in a text, up to the first that leads to none.
+pub(crate) fn steps_of(
     alloc: Global,
     bytes: &[u8],
     profile: Profile,
     place: &Place,
 ) -> Result<Vec<Step>, AllocError> {
     let Ok(source) = Source::new(bytes) else {
-        return plain_steps(alloc, place);
+        return Ok(Vec::new(alloc));
     };
     match names_of_text(alloc, source, profile) {
-        Ok(names) => match place.address(alloc, &names)? {
-            Some(address) => Ok(address.into_steps()),
-            None => plain_steps(alloc, place),
-        },
+        Ok(names) => leading(alloc, &names, place),
         Err(fault) => {
             fault.told()?;
-            plain_steps(alloc, place)
+            Ok(Vec::new(alloc))
         }
     }
+}
+
+/// The steps to which a place leads in the data of a text, up to the first that leads to none.
+fn leading(alloc: Global, names: &NamedText<'_>, place: &Place) -> Result<Vec<Step>, AllocError> {
+    let mut steps = Vec::new(alloc);
+    let mut part = Some(names.root());
+    for place_step in place.steps() {
+        let Some(step) = step_in(names, part, place_step)? else {
+            return Ok(steps);
+        };
+        part = part_in(names, part, &step)?;
+        steps.push(step)?;
+    }
+    Ok(steps)
 }
 
 /// What is wrong with what stands, or does not stand, at a place.
@@ -71,8 +68,7 @@ pub fn explain_absent(
     code: u16,
     profile: Profile,
 ) -> Result<String, AllocError>
-    ensures file { IfOk result (λ text. OpensInFile file.entry.word.now file.entry.bytes.now (string_bytes text)) }
-    ensures below { IfOk result (λ text. ShowsInFile file.entry.word.now file.entry.bytes.now (string_bytes text)) }
+    ensures { IfOk result (λ text. ShowsInFile file.entry.word.now file.entry.bytes.now (string_bytes text)) }
 {
     let shown = shown_place(alloc, place)?;
     let mut sentence = absent_sentence(alloc, shown.as_str(), code)?;

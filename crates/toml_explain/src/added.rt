@@ -1,6 +1,6 @@
 //! Lines and comments of an edited text that nobody asked for (407, 408).
 ghost use Rattle.std.specs.Prelude.{IfOk, string_bytes};
-ghost use Rattle.toml_explain.specs.Openings.{OpensInFile};
+ghost use Rattle.toml_explain.specs.Documents.{ShowsInFile};
 
 use crate::carrying::Carrier;
 use crate::lost::unit_words;
@@ -263,7 +263,7 @@ pub(crate) fn explain_added(
     judged: Judged<'_>,
     comments: bool,
 ) -> Result<String, AllocError>
-    ensures { IfOk result (λ text. OpensInFile judged.entry.after.word.now judged.entry.after.bytes.now (string_bytes text)) }
+    ensures { IfOk result (λ text. ShowsInFile judged.entry.after.word.now judged.entry.after.bytes.now (string_bytes text)) }
 {
     let Some((unit, span)) = first_added(alloc, judged, comments)? else {
         return plain(

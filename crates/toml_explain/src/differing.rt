@@ -1,6 +1,6 @@
 //! Data that are not what edits give (404).
 ghost use Rattle.std.specs.Prelude.{IfOk, string_bytes};
-ghost use Rattle.toml_explain.specs.Openings.{OpensInFile};
+ghost use Rattle.toml_explain.specs.Documents.{ShowsInFile};
 
 use crate::data::data_of;
 use crate::edit::{address_text, look_up};
@@ -241,7 +241,7 @@ fn difference_sentence(
 
 /// Where the data of the text after differ from those that the edits give.
 pub(crate) fn explain_difference(alloc: Global, judged: Judged<'_>) -> Result<String, AllocError>
-    ensures { IfOk result (λ text. OpensInFile judged.entry.after.word.now judged.entry.after.bytes.now (string_bytes text)) }
+    ensures { IfOk result (λ text. ShowsInFile judged.entry.after.word.now judged.entry.after.bytes.now (string_bytes text)) }
 {
     let Some((made, found_data)) = both_data(alloc, judged)? else {
         return plain(

@@ -1,13 +1,12 @@
 //! Edits that are refused.
-ghost use Rattle.std.specs.Prelude.{◌≢◌, IfOk, string_bytes};
-ghost use Rattle.toml_explain.specs.Documents.{ShowsInFile};
-ghost use Rattle.toml_explain.specs.Openings.{OpensInFile};
+ghost use Rattle.std.specs.Prelude.{◌≡◌, ◌≢◌, IfOk, string_bytes};
+ghost use Rattle.toml_explain.specs.Documents.{ShowsInFile, ShowsMoreInFile};
 
 use crate::input::Input;
 use crate::origin::{begins_with, origin};
 use crate::standing::{front_of, meant, question};
-use crate::telling::{excerpt_at, told, told_at};
-use crate::value::flaw_of;
+use crate::telling::told_at;
+use crate::value::explain_value;
 use std::alloc::{AllocError, Global};
 use toml_edits::{Edit, carry, place};
 use toml_mentions::find_spot;
@@ -36,11 +35,15 @@ pub(crate) fn address_text(alloc: Global, at: &Address) -> Result<String, AllocE
     }
 }
 
-/// Which edit it is, and what it does.
-fn edit_text(alloc: Global, edit: &Edit, index: usize) -> Result<String, AllocError> {
+/// Which edit it is, and what it does at an address that is shown so.
+pub(crate) fn edit_text(
+    alloc: Global,
+    edit: &Edit,
+    index: usize,
+    address: &str,
+) -> Result<String, AllocError> {
     let action = action(edit);
-    let address = address_text(alloc, place(edit))?;
-    format!(in alloc; "edit {index}, {action} of {}: ", address.as_str())
+    format!(in alloc; "edit {index}, {action} of {address}: ")
 }
 
 /// Nothing stands where the edit looks for something.
@@ -70,7 +73,7 @@ fn spread(edit: &Edit) -> &'static str {
 }
 
 /// The rule that an edit breaks, by the code.
-fn edit_rule(edit: &Edit, code: u16) -> &'static str {
+pub(crate) fn edit_rule(edit: &Edit, code: u16) -> &'static str {
     match code {
         301 => nothing(edit),
         302 => match edit {
@@ -221,31 +224,6 @@ fn value_of(edit: &Edit) -> Option<&str> {
     }
 }
 
-/// Why the value of an edit is none (306): the line of its place in the file, and the value.
-fn explain_value(
-    alloc: Global,
-    file: Input<'_>,
-    sentence: String,
-    spot: Option<Span>,
-    value: &str,
-    profile: Profile,
-) -> Result<String, AllocError>
-    ensures { IfOk result (λ text. OpensInFile file.entry.word.now file.entry.bytes.now (string_bytes text)) }
-{
-    let flaw = flaw_of(alloc, value, profile)?;
-    let mut excerpt = excerpt_at(alloc, file.bytes, spot);
-    if let Some(span) = spot {
-        excerpt.push_line(file.bytes, span, "")?;
-    }
-    if let Some(meant) = flaw.meant {
-        excerpt.push_unnumbered(value.as_bytes(), meant)?;
-    }
-    let mut text = sentence;
-    text.push_str(": ")?;
-    text.push_str(flaw.sentence.as_str())?;
-    told(alloc, file, spot, text, excerpt)
-}
-
 /// Adds what may help where nothing stands: the name that may be meant, else the hint where tables are missing above.
 fn push_advice(
     alloc: Global,
@@ -275,27 +253,50 @@ pub fn explain_edit(
     hint: &str,
     profile: Profile,
 ) -> Result<String, AllocError>
-    ensures file { IfOk result (λ text. OpensInFile file.entry.word.now file.entry.bytes.now (string_bytes text)) }
+    ensures value { code ≡ 306 → IfOk result (λ text. ShowsMoreInFile file.entry.word.now file.entry.bytes.now (string_bytes text)) }
     ensures below { code ≢ 306 → IfOk result (λ text. ShowsInFile file.entry.word.now file.entry.bytes.now (string_bytes text)) }
 {
     let Some(edit) = edits.get(index) else {
-        return told_at(
-            alloc,
-            file,
-            None,
-            format!(in alloc; "edit {index} is refused")?,
-        );
+        return edit_alone(alloc, file, index);
     };
     let found = look_up_edit(alloc, file.bytes, profile, edits, index, edit)?;
-    let mut sentence = edit_text(alloc, edit, index)?;
+    let address = address_text(alloc, place(edit))?;
+    let mut sentence = edit_text(alloc, edit, index, address.as_str())?;
     sentence.push_str(edit_rule(edit, code))?;
     if code == 301 {
         push_advice(alloc, &mut sentence, &found, place(edit).steps(), hint)?;
     }
+    with_value(alloc, file, edit, code, sentence, found.spot, profile)
+}
+
+/// What is said of an edit that is not in the list.
+pub(crate) fn edit_alone(alloc: Global, file: Input<'_>, index: usize) -> Result<String, AllocError>
+    ensures value { IfOk result (λ text. ShowsMoreInFile file.entry.word.now file.entry.bytes.now (string_bytes text)) }
+    ensures below { IfOk result (λ text. ShowsInFile file.entry.word.now file.entry.bytes.now (string_bytes text)) }
+{
+    told_at(
+        alloc,
+        file,
+        None,
+        format!(in alloc; "edit {index} is refused")?,
+    )
+}
+
+/// A sentence of an edit, below it the line of a span of the file, where there is one, and below that the value that is none (306).
+pub(crate) fn with_value(
+    alloc: Global,
+    file: Input<'_>,
+    edit: &Edit,
+    code: u16,
+    sentence: String,
+    spot: Option<Span>,
+    profile: Profile,
+) -> Result<String, AllocError>
+    ensures value { code ≡ 306 → IfOk result (λ text. ShowsMoreInFile file.entry.word.now file.entry.bytes.now (string_bytes text)) }
+    ensures below { code ≢ 306 → IfOk result (λ text. ShowsInFile file.entry.word.now file.entry.bytes.now (string_bytes text)) }
+{
     match value_of(edit) {
-        Some(value) if code == 306 => {
-            explain_value(alloc, file, sentence, found.spot, value, profile)
-        }
-        _ => told_at(alloc, file, found.spot, sentence),
+        Some(value) if code == 306 => explain_value(alloc, file, sentence, spot, value, profile),
+        _ => told_at(alloc, file, spot, sentence),
     }
 }

@@ -1,6 +1,6 @@
 //! Lines of a text as they are shown: each with its number, and carets below what is meant.
 ghost use Rattle.std.specs.Prelude.{◌≡◌, ◌≤◌, ◌++◌, ◌∷◌, [], IfOk, OnOk, decimal, length, replicate, string_bytes};
-ghost use Rattle.toml_explain.specs.Excerpts.{Gains, GainsCarets, GainsLine, IsDrawn, below_line, labelled, line_number, margin, noted};
+ghost use Rattle.toml_explain.specs.Excerpts.{Gains, GainsCarets, GainsLine, GainsMore, IsDrawnAt, below_line, labelled, line_number, margin, noted};
 
 use crate::drawing::{Drawing, draw};
 use itoa::Buffer;
@@ -118,14 +118,16 @@ impl Excerpt {
     }
 
     /// Adds the line of a text without its number.
-    pub fn push_unnumbered(&mut self, bytes: &[u8], meant: Span) -> Result<(), AllocError> {
+    pub fn push_unnumbered(&mut self, bytes: &[u8], meant: Span) -> Result<(), AllocError>
+        ensures { OnOk result (GainsMore self.old self.new) }
+    {
         let drawing = line_drawing(self.alloc, bytes, meant)?;
         self.push("", &drawing, "")
     }
 
     /// Adds carets below the line of a text that was added last.
     pub fn push_more(&mut self, bytes: &[u8], meant: Span, note: &str) -> Result<(), AllocError>
-        ensures { OnOk result (GainsCarets self.old self.new note.now) }
+        ensures { OnOk result (GainsCarets self.old self.new bytes.now meant.start note.now) }
     {
         let drawing = line_drawing(self.alloc, bytes, meant)?;
         self.push_below(&drawing, note)
@@ -156,7 +158,7 @@ fn push_note(text: &mut String, note: &str) -> Result<(), AllocError>
 
 /// Draws the line of a text in which a span begins.
 fn line_drawing(alloc: Global, bytes: &[u8], meant: Span) -> Result<Drawing, AllocError>
-    ensures { IfOk result IsDrawn }
+    ensures { IfOk result (IsDrawnAt bytes.now meant.start) }
 {
     let line = position(bytes, meant.start.min(bytes.len())).line_span;
     let inside = Span {

@@ -1,4 +1,4 @@
-//! What stands before a place of a text: the last byte that counts, and the bracket that is open.
+//! What stands before a place of a text: the last byte that counts, and which bracket is open.
 use std::alloc::{AllocError, Global};
 
 /// Where a byte stands.
@@ -16,13 +16,21 @@ enum Room {
     LinesEscape,
 }
 
+/// A bracket or brace that is not closed.
+#[derive(Clone, Copy)]
+pub(crate) struct Open {
+    pub mark: u8,
+    /// Where the element or pair begins that is not ended: behind the last comma in it, or behind the mark.
+    pub item: usize,
+}
+
 /// What stands before a place.
 #[derive(Drop)]
 pub(crate) struct Front {
     /// The last byte that is no whitespace, no newline and of no comment.
     pub last: Option<u8>,
     /// The brackets and braces that are not closed, the outermost first.
-    open: Vec<u8>,
+    open: Vec<Open>,
 }
 
 impl Front {
@@ -33,32 +41,43 @@ impl Front {
             open: Vec::new(alloc),
         };
         let mut room = Room::Plain;
-        for byte in bytes {
+        for (at, byte) in bytes.iter().enumerate() {
             room = next(room, *byte);
-            front.take(room, *byte)?;
+            front.take(room, *byte, at.saturating_add(1))?;
         }
         Ok(front)
     }
 
     /// The innermost bracket or brace that is not closed.
-    pub(crate) fn innermost(&self) -> Option<u8> {
+    pub(crate) fn innermost(&self) -> Option<Open> {
         self.open.last().copied()
     }
 
-    /// Takes a byte in, which stands there.
-    fn take(&mut self, room: Room, byte: u8) -> Result<(), AllocError> {
+    /// Takes a byte in, which stands there, before a place.
+    fn take(&mut self, room: Room, byte: u8, behind: usize) -> Result<(), AllocError> {
         if matches!(room, Room::Comment) || byte.is_ascii_whitespace() {
             return Ok(());
         }
         self.last = Some(byte);
         match (room, byte) {
-            (Room::Plain, b'[' | b'{') => self.open.push(byte)?,
+            (Room::Plain, b'[' | b'{') => self.open.push(Open {
+                mark: byte,
+                item: behind,
+            })?,
             (Room::Plain, b']' | b'}') => {
                 let _ = self.open.pop();
             }
+            (Room::Plain, b',') => self.begin_item(behind),
             _ => {}
         }
         Ok(())
+    }
+
+    /// Another element or pair begins at a place.
+    fn begin_item(&mut self, at: usize) {
+        if let Some(open) = self.open.last_mut() {
+            open.item = at;
+        }
     }
 }
 

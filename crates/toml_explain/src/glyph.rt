@@ -1,5 +1,6 @@
 //! What the characters of a line are shown as, and how many columns they take.
-ghost use Rattle.std.specs.Prelude.{◌≢◌};
+ghost use Rattle.std.specs.Prelude.{◌≡◌, ◌≢◌, ◌-◌, ◌^◌, min};
+ghost use Rattle.toml_explain.specs.Shown.{column_behind, columns_at, is_genuine, shown_line, shown_span};
 
 use bstr::ByteSlice;
 use unicode_width::UnicodeWidthChar;
@@ -25,7 +26,9 @@ const UNKNOWN: Glyph = Glyph {
 
 /// Whether the character is one of the text, and does not stand for bytes that are no UTF-8. Of such a piece that begins as U+FFFD
 /// does the last byte is missing.
-fn is_genuine(bytes: &[u8], start: usize, end: usize, character: char) -> bool {
+fn is_genuine(bytes: &[u8], start: usize, end: usize, character: char) -> bool
+    ensures { result ≡ is_genuine bytes.now start end character }
+{
     character != '\u{FFFD}' || (bytes.get(start) == Some(&0xEF) && end.saturating_sub(start) == 3)
 }
 
@@ -38,7 +41,9 @@ pub(crate) fn glyph_of(
     character: char,
     column: usize,
 ) -> Glyph
-    ensures { result.shown ≢ 0x0A }
+    ensures shown { result.shown ≡ shown_span line.now (start, end, character) }
+    ensures columns { result.columns ≡ columns_at column result.shown }
+    ensures other { result.shown ≢ 0x0A }
 {
     if character == '\t' {
         return Glyph {
@@ -46,7 +51,10 @@ pub(crate) fn glyph_of(
             columns: TAB - column % TAB,
         };
     }
-    if character == MARK || !is_genuine(line, start, end, character) {
+    if character == MARK {
+        return UNKNOWN;
+    }
+    if !is_genuine(line, start, end, character) {
         return UNKNOWN;
     }
     match character.width() {
@@ -66,7 +74,9 @@ pub(crate) struct Columns {
 }
 
 /// The columns of a line, and of the place in it.
-pub(crate) fn columns_of(line: &[u8], at: usize) -> Columns {
+pub(crate) fn columns_of(line: &[u8], at: usize) -> Columns
+    ensures { result.all ≡ min (column_behind 0 (shown_line line.now)) (2 ^ 64 - 1) }
+{
     let mut all = 0usize;
     let mut place = 0;
     for (start, end, character) in line.char_indices() {

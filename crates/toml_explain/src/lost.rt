@@ -1,6 +1,6 @@
 //! Units that no edit names and that are lost (406).
 ghost use Rattle.std.specs.Prelude.{IfOk, string_bytes};
-ghost use Rattle.toml_explain.specs.Openings.{OpensInFile};
+ghost use Rattle.toml_explain.specs.Documents.{ShowsInFile};
 
 use crate::pairs::{bytes_of, pair_units};
 use crate::reason::{Judged, plain};
@@ -42,7 +42,7 @@ fn first_lost(
 
 /// The first unit of the text before that no edit names, and that is not in the text after.
 pub(crate) fn explain_lost(alloc: Global, judged: Judged<'_>) -> Result<String, AllocError>
-    ensures { IfOk result (λ text. OpensInFile judged.entry.before.word.now judged.entry.before.bytes.now (string_bytes text)) }
+    ensures { IfOk result (λ text. ShowsInFile judged.entry.before.word.now judged.entry.before.bytes.now (string_bytes text)) }
 {
     let Some((unit, span)) = first_lost(alloc, judged)? else {
         return plain(alloc, judged.before, "what no edit names is not kept");

@@ -1,6 +1,7 @@
 //! The judge's reasons.
-ghost use Rattle.std.specs.Prelude.{IfOk, string_bytes};
-ghost use Rattle.toml_explain.specs.Openings.{OpensInFile};
+ghost use Rattle.std.specs.Prelude.{◌≡◌, ◌≢◌, IfOk, string_bytes};
+ghost use Rattle.toml_checker.specs.declared.verdict.Reason.TheVariants.{EditsRefused};
+ghost use Rattle.toml_explain.specs.Documents.{ShowsInFile, ShowsMoreInFile};
 ghost use Rattle.toml_explain.specs.Reasons.{told_of};
 
 use crate::added::explain_added;
@@ -28,7 +29,7 @@ pub struct Judged<'a> {
 
 /// A sentence of a whole file.
 pub(crate) fn plain(alloc: Global, file: Input<'_>, sentence: &str) -> Result<String, AllocError>
-    ensures { IfOk result (λ text. OpensInFile file.entry.word.now file.entry.bytes.now (string_bytes text)) }
+    ensures { IfOk result (λ text. ShowsInFile file.entry.word.now file.entry.bytes.now (string_bytes text)) }
 {
     told_at(alloc, file, None, String::from_str(alloc, sentence)?)
 }
@@ -70,7 +71,7 @@ fn first_refused(
 
 /// Why the edits are not defined.
 fn explain_edits(alloc: Global, judged: Judged<'_>) -> Result<String, AllocError>
-    ensures { IfOk result (λ text. OpensInFile judged.entry.before.word.now judged.entry.before.bytes.now (string_bytes text)) }
+    ensures { IfOk result (λ text. ShowsMoreInFile judged.entry.before.word.now judged.entry.before.bytes.now (string_bytes text)) }
 {
     let (before, edits, profile) = (judged.before, judged.edits, judged.profile);
     match first_refused(alloc, before.bytes, edits, profile)? {
@@ -86,7 +87,7 @@ pub fn explain_unverified(
     file: Input<'_>,
     reason: Option<Reason>,
 ) -> Result<String, AllocError>
-    ensures { IfOk result (λ text. OpensInFile file.entry.word.now file.entry.bytes.now (string_bytes text)) }
+    ensures { IfOk result (λ text. ShowsInFile file.entry.word.now file.entry.bytes.now (string_bytes text)) }
 {
     let because = match reason {
         Some(Reason::BeforeRefused) => "this is no document",
@@ -113,8 +114,9 @@ pub fn explain_reason(
     judged: Judged<'_>,
     reason: Reason,
 ) -> Result<String, AllocError>
-    ensures { let told = told_of judged.entry.before judged.entry.after reason in
-        IfOk result (λ text. OpensInFile told.word.now told.bytes.now (string_bytes text)) }
+    ensures shown { let told = told_of judged.entry.before judged.entry.after reason in
+        reason ≢ EditsRefused → IfOk result (λ text. ShowsInFile told.word.now told.bytes.now (string_bytes text)) }
+    ensures edits { reason ≡ EditsRefused → IfOk result (λ text. ShowsMoreInFile judged.entry.before.word.now judged.entry.before.bytes.now (string_bytes text)) }
 {
     match reason {
         Reason::BeforeRefused => plain(alloc, judged.before, "this is no document"),

@@ -3,75 +3,11 @@ ghost use Rattle.std.specs.Prelude.{◌≡◌};
 
 use crate::excerpt::at_place;
 use crate::expected::unexpected;
+use crate::runs::{bad_date, bad_number};
+use crate::strays::stray;
 use crate::token::token_span;
 use std::alloc::{AllocError, Global};
 use toml_text::Span;
-
-/// Whether a digit stands there, of a number to base 16 one of that.
-fn is_digit(byte: Option<&u8>, is_hexadecimal: bool) -> bool {
-    match byte {
-        Some(byte) if is_hexadecimal => byte.is_ascii_hexdigit(),
-        Some(byte) => byte.is_ascii_digit(),
-        None => false,
-    }
-}
-
-/// Whether a mark stands in a number anywhere but between two digits.
-fn stands_apart(run: &[u8], mark: u8, is_hexadecimal: bool) -> bool {
-    for (at, byte) in run.iter().enumerate() {
-        let before = match at.checked_sub(1) {
-            Some(place) => run.get(place),
-            None => None,
-        };
-        let behind = run.get(at.saturating_add(1));
-        if *byte == mark
-            && !(is_digit(before, is_hexadecimal) && is_digit(behind, is_hexadecimal))
-        {
-            return true;
-        }
-    }
-    false
-}
-
-/// Whether a run has one point.
-fn has_one_point(run: &[u8]) -> bool {
-    let mut points = 0usize;
-    for byte in run {
-        if *byte == b'.' {
-            points = points.saturating_add(1);
-        }
-    }
-    points == 1
-}
-
-/// What is wrong with a run that is no number.
-fn bad_number(run: &[u8]) -> &'static str {
-    let unsigned = match run {
-        [b'+' | b'-', rest @ ..] => rest,
-        _ => run,
-    };
-    let has_prefix = matches!(unsigned, [b'0', b'x' | b'o' | b'b', ..]);
-    match unsigned {
-        [b'0', b'0'..=b'9' | b'_', ..] => "a number may not begin with 0",
-        _ if has_prefix && unsigned.len() != run.len() => "a number with a prefix has no sign",
-        _ if stands_apart(unsigned, b'_', unsigned.starts_with(b"0x")) => {
-            "this is no number: an underscore stands between two digits"
-        }
-        _ if !has_prefix && has_one_point(unsigned) && stands_apart(unsigned, b'.', false) => {
-            "this is no number: digits stand on both sides of a point"
-        }
-        _ => "this is no number, and a string stands between quotation marks",
-    }
-}
-
-/// What is wrong with a run that is no date and no time.
-fn bad_date(run: &[u8]) -> &'static str {
-    match (run.contains(&b'-'), run.contains(&b':')) {
-        (true, true) => "this is no date with a time, or a day or an hour that does not exist",
-        (true, false) => "this is no date, or a day that the calendar does not have",
-        _ => "this is no time of a day, with hours, minutes and seconds",
-    }
-}
 
 /// What is wrong with a control character, by its code point.
 fn bad_character(alloc: Global, bytes: &[u8], at: usize) -> Result<String, AllocError> {
@@ -130,6 +66,14 @@ fn token(bytes: &[u8], at: usize) -> &[u8] {
     }
 }
 
+/// The sentence of a place where a text may not go on so.
+fn unexpected_sentence(alloc: Global, bytes: &[u8], at: usize) -> Result<String, AllocError> {
+    match stray(alloc, bytes, at)? {
+        Some(sentence) => Ok(sentence),
+        None => String::from_str(alloc, unexpected(alloc, bytes, at)?),
+    }
+}
+
 /// The sentence of a refusal whose place is a byte.
 pub(crate) fn byte_sentence(
     alloc: Global,
@@ -138,9 +82,9 @@ pub(crate) fn byte_sentence(
     at: usize,
 ) -> Result<String, AllocError> {
     let fixed = match code {
-        101 => "from here on the bytes are no UTF-8",
+        101 => "this byte is no UTF-8, and the file may be in another encoding",
         103 => return bad_character(alloc, bytes, at),
-        104 => unexpected(alloc, bytes, at)?,
+        104 => return unexpected_sentence(alloc, bytes, at),
         105 => bad_string(bytes, at),
         106 => bad_number(token(bytes, at)),
         107 => "an integer lies between -9223372036854775808 and 9223372036854775807",

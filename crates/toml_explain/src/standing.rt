@@ -1,7 +1,7 @@
 //! What stands in the data of a text along the steps of an address.
-ghost use Rattle.std.specs.Prelude.{IfOk, IfSome};
+ghost use Rattle.std.specs.Prelude.{◌≡◌, IfOk, IfSome};
 ghost use Rattle.toml_names.specs.reader.Parts.{IsPart};
-ghost use Rattle.toml_explain.specs.Standing.{IsFrontOf, IsNameOf};
+ghost use Rattle.toml_explain.specs.Standing.{IsFrontOf, IsMeant, IsNear, IsNearest, near_limit};
 
 use std::alloc::{AllocError, Global};
 use strsim::osa_distance;
@@ -37,12 +37,16 @@ pub(crate) fn front_of(names: &NamedText<'_>, steps: &[Step]) -> Result<Front, A
 const MAX_NAME: usize = 64;
 
 /// How many changes lead from a name to one that is near at most: a third of its length, or one; not all of it may change.
-fn near_limit(name: &str) -> usize {
+fn near_limit(name: &str) -> usize
+    ensures { result ≡ near_limit name.now }
+{
     (name.len() / 3).max(1).min(name.len().saturating_sub(1))
 }
 
 /// How many changes lead from one name to the other, where they are few but some.
-fn distance(alloc: Global, name: &str, member: &str) -> Result<Option<usize>, AllocError> {
+fn distance(alloc: Global, name: &str, member: &str) -> Result<Option<usize>, AllocError>
+    ensures { IfOk result (λ few. IfSome few (λ n. IsNear name.now member.now)) }
+{
     if name.len() > MAX_NAME || member.len() > MAX_NAME {
         return Ok(None);
     }
@@ -60,7 +64,7 @@ fn nearest<'m>(
     members: &[(&'m str, usize)],
     name: &str,
 ) -> Result<Option<&'m str>, AllocError>
-    ensures { IfOk result (λ near. IfSome near (IsNameOf members.now)) }
+    ensures { IfOk result (λ near. IfSome near (IsNearest members.now name.now)) }
 {
     let mut best = None;
     let mut least = usize::MAX;
@@ -92,6 +96,7 @@ pub(crate) fn meant(
     steps: &[Step],
 ) -> Result<Option<Name>, AllocError>
     requires { IsPart names.now front.part }
+    ensures { IfOk result (λ near. IfSome near (IsMeant names.now front steps.now)) }
 {
     let Some(Step::Name(name)) = steps.get(front.depth) else {
         return Ok(None);

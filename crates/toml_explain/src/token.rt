@@ -25,7 +25,7 @@ fn run_len(bytes: &[u8]) -> usize
 }
 
 /// Whether the run is `DDDD-DD-DD` in digits.
-fn is_date_shape(run: &[u8]) -> bool {
+pub(crate) fn is_date_shape(run: &[u8]) -> bool {
     run.len() == DATE_LEN
         && run.iter().enumerate().all(|(i, byte)| {
             if i == 4 || i == 7 {
@@ -61,4 +61,10 @@ pub(crate) fn token_span(bytes: &[u8], at: usize) -> Span
         start: at,
         end: at.saturating_add(len.max(1)),
     }
+}
+
+/// The run at the front.
+pub(crate) fn token_run(bytes: &[u8]) -> &[u8] {
+    let (run, _) = bytes.split_at(run_len(bytes));
+    run
 }

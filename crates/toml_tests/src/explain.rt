@@ -4,8 +4,8 @@ use std::test::Fail;
 use toml_checker::Reason;
 use toml_edits::read_edits;
 use toml_explain::{
-    Input, Judged, explain_absent, explain_document, explain_edit, explain_list, explain_place,
-    explain_reason, explain_unverified,
+    Input, Judged, explain_absent, explain_document, explain_edit, explain_list, explain_nowhere,
+    explain_place, explain_reason, explain_unverified,
 };
 use toml_tree::Profile;
 
@@ -46,6 +46,8 @@ fn refusals_are_explained(rt: HostRuntime) -> Result<(), Fail> {
     let edits = read_edits(alloc, list.as_bytes()).ok().ok_or("edits")?;
     let edit = explain_edit(alloc, input(GOOD), &edits, 0, 307, "", one)?;
     assert!(rt; edit.as_str().starts_with("F:2:1: edit 0, removal of"));
+    let nowhere = explain_nowhere(alloc, input(GOOD), "s[-1]", &edits, 0, 301, one)?;
+    assert!(rt; nowhere.as_str().starts_with("F:1:2: edit 0, removal of"));
     let judged = Judged {
         before: input(GOOD),
         edits: &edits,
@@ -56,10 +58,6 @@ fn refusals_are_explained(rt: HostRuntime) -> Result<(), Fail> {
     let unsure = explain_unverified(alloc, input(GOOD), Some(Reason::Lost))?;
     assert!(rt; unsure.as_str().starts_with("F: ") && unsure.as_str().ends_with("is not kept\n"));
     let other = explain_reason(alloc, judged, Reason::OtherData)?;
-    assert!(rt;
-        other
-            .as_str()
-            .starts_with("F:2:1: the data differ at s.port: ")
-    );
+    assert!(rt; other.as_str().starts_with("F:2:1: the data differ at"));
     Ok(())
 }

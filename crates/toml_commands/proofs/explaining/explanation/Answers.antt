@@ -20,14 +20,14 @@ returns-in-Get c =
     let file = c.input-in-Get in
     let told = c.of_get.ensures in
     of_get string_bytes c.of_get.result c.args.request.now c.args.inputs.now c.args.refusal c.in-Get.profile c.in-Get.file
-    file.result.word.now file.result.bytes.now file.ensures.word file.ensures.bytes c.in-Get.place told.no_place told.no_document told.in_file c.in-Get.form c.in-Get.default c.in-Get.is
+    file.result.word.now file.result.bytes.now file.ensures.word file.ensures.bytes c.in-Get.place told.no_place told.no_document told.value told.in_file c.in-Get.form c.in-Get.default c.in-Get.is
 
 pub returns-in-One : goal.returns-in-One
 returns-in-One c =
     let file = c.input-in-One in
     let told = c.of_one.ensures in
     of_one string_bytes c.of_one.result c.args.request.now c.args.inputs.now c.args.refusal c.in-One.profile c.in-One.file
-    file.result.word.now file.result.bytes.now file.ensures.word file.ensures.bytes c.in-One.place told.no_place told.no_document told.in_file c.in-One.edit c.in-One.destination c.in-One.layout c.in-One.is
+    file.result.word.now file.result.bytes.now file.ensures.word file.ensures.bytes c.in-One.place told.no_place told.no_document told.value told.in_file c.in-One.edit c.in-One.destination c.in-One.layout c.in-One.is
 
 pub returns-in-Edit : goal.returns-in-Edit
 returns-in-Edit c =
@@ -35,7 +35,7 @@ returns-in-Edit c =
     let list = c.input-list in
     let told = c.of_list.ensures in
     of_edit string_bytes c.of_list.result c.args.request.now c.args.inputs.now c.args.refusal c.in-Edit.profile c.in-Edit.file
-    file.result.word.now file.result.bytes.now file.ensures.word file.ensures.bytes c.in-Edit.edits list.result.word.now list.ensures.word told.no_list told.no_document told.in_file
+    file.result.word.now file.result.bytes.now file.ensures.word file.ensures.bytes c.in-Edit.edits list.result.word.now list.ensures.word told.no_list told.no_document told.value told.in_file
     c.in-Edit.out c.in-Edit.cert c.in-Edit.explain c.in-Edit.is
 
 pub returns-in-Apply : goal.returns-in-Apply
@@ -44,7 +44,7 @@ returns-in-Apply c =
     let list = c.input-list-in-Apply in
     let told = c.of_list-in-Apply.ensures in
     of_apply string_bytes c.of_list-in-Apply.result c.args.request.now c.args.inputs.now c.args.refusal c.in-Apply.profile c.in-Apply.file
-    file.result.word.now file.result.bytes.now file.ensures.word file.ensures.bytes c.in-Apply.edits list.result.word.now list.ensures.word told.no_list told.no_document told.in_file
+    file.result.word.now file.result.bytes.now file.ensures.word file.ensures.bytes c.in-Apply.edits list.result.word.now list.ensures.word told.no_list told.no_document told.value told.in_file
     c.in-Apply.destination c.in-Apply.layout c.in-Apply.is
 
 pub returns-in-Verify : goal.returns-in-Verify

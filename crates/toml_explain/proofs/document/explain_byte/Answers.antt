@@ -1,12 +1,9 @@
-use Rattle.std.proofs.Common.{subst}
 use Rattle.std.specs.Prelude.{string_bytes}
-use Rattle.toml_explain.specs.Excerpts.{EndsInNumbered, line_number}
 use Rattle.toml_explain.proofs.ShownLines.{line_behind, same_line}
 use Rattle.toml_explain.proofs.document.explain_byte.Goals as goal
 
 pub returns-clause-below : goal.returns-clause-below
 returns-clause-below c =
     let bytes = c.args.file.bytes.now in
-    let same = same_line bytes c.args.place c.min-at.result c.min-at.ensures in
-    line_behind string_bytes (line_number bytes c.args.place) (string_bytes c.in_ok-lines.lines) c.as_str.result.now c.as_str.ensures.value
-    (subst (λ n. EndsInNumbered n (string_bytes c.in_ok-lines.lines)) same c.in_ok-lines.ensures) c.opened.result c.opened.ensures.behind
+    line_behind string_bytes bytes c.args.place (string_bytes c.in_ok-lines.lines) c.as_str.result.now c.as_str.ensures.value
+    (same_line bytes c.args.place c.min-at.result c.min-at.ensures (string_bytes c.in_ok-lines.lines) c.in_ok-lines.ensures) c.opened.result c.opened.ensures.behind
