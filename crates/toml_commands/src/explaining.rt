@@ -201,8 +201,7 @@ fn of_get(
 ) -> Result<String, AllocError>
     ensures no_place { ExplainsPlace place.now refusal result }
     ensures no_document { ExplainsDocument profile file.entry refusal result }
-    ensures value { ExplainsValue file.entry refusal result }
-    ensures in_file { 300 ≤ refusal.code → refusal.code ≢ 306 → refusal.code ≢ 340 → ExplainsFile file.entry result }
+    ensures in_file { 300 ≤ refusal.code → refusal.code ≢ 340 → ExplainsFile file.entry result }
 {
     if refusal.code == 340 {
         return explain_place(alloc, place, refusal.place);

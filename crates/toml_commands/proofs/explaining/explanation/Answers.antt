@@ -1,5 +1,6 @@
+use Rattle.std.proofs.Common.{arith}
 use Rattle.std.specs.Prelude.{string_bytes}
-use Rattle.toml_commands.proofs.Said.{by_request, of_apply, of_check, of_edit, of_get, of_one, of_show}
+use Rattle.toml_commands.proofs.Said.{by_request, more_shown, of_apply, of_check, of_edit, of_get, of_one, of_show}
 use Rattle.toml_words.specs.declared.request.Request.TheVariants as requests
 use Rattle.toml_commands.proofs.explaining.explanation.Goals as goal
 
@@ -20,7 +21,9 @@ returns-in-Get c =
     let file = c.input-in-Get in
     let told = c.of_get.ensures in
     of_get string_bytes c.of_get.result c.args.request.now c.args.inputs.now c.args.refusal c.in-Get.profile c.in-Get.file
-    file.result.word.now file.result.bytes.now file.ensures.word file.ensures.bytes c.in-Get.place told.no_place told.no_document told.value told.in_file c.in-Get.form c.in-Get.default c.in-Get.is
+    file.result.word.now file.result.bytes.now file.ensures.word file.ensures.bytes c.in-Get.place told.no_place told.no_document
+    (λ is. more_shown string_bytes file.result.word.now file.result.bytes.now c.of_get.result (told.in_file (omega (arith, is)) (λ e. omega (arith, is, e))))
+    (λ low no_value no_place. told.in_file low no_place) c.in-Get.form c.in-Get.default c.in-Get.is
 
 pub returns-in-One : goal.returns-in-One
 returns-in-One c =
