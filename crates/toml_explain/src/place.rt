@@ -43,6 +43,14 @@ pub(crate) fn shown_place(alloc: Global, place: &str) -> Result<String, AllocErr
     Ok(text)
 }
 
+/// Whether a bracket stands directly before a byte.
+fn is_behind_bracket(place: &[u8], at: usize) -> bool {
+    match at.checked_sub(1) {
+        Some(before) => place.get(before) == Some(&b'['),
+        None => false,
+    }
+}
+
 /// What is wrong with a place at a byte.
 fn place_sentence(place: &[u8], at: usize) -> &'static str {
     let Some(rest) = place.get(at..) else {
@@ -50,6 +58,8 @@ fn place_sentence(place: &[u8], at: usize) -> &'static str {
     };
     match rest {
         [] => "the place ends where something more is expected",
+        [b'a'..=b'z' | b'A'..=b'Z' | b'_' | b'"' | b'\'', ..] if is_behind_bracket(place, at) =>
+            "an index stands in brackets, a name behind a dot",
         [b'"' | b'\'', ..] => "a string that is a name is not closed, or has what none may have",
         [b'0'..=b'9', ..] =>
             "an index is a number without a 0 in front, at most 18446744073709551615",
