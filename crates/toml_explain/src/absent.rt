@@ -49,6 +49,7 @@ fn leading(alloc: Global, names: &NamedText<'_>, place: &Place) -> Result<Vec<St
 /// What is wrong with what stands, or does not stand, at a place.
 fn absent_sentence(alloc: Global, shown: &str, code: u16) -> Result<String, AllocError> {
     match code {
+        307 if shown == "." => String::from_str(alloc, "the whole document is no single value"),
         301 => format!(in alloc; "nothing stands at {shown}"),
         307 => {
             format!(in alloc;

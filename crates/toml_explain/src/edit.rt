@@ -4,6 +4,7 @@ ghost use Rattle.toml_explain.specs.Documents.{ShowsInFile, ShowsMoreInFile};
 
 use crate::input::Input;
 use crate::origin::{begins_with, origin};
+use crate::place::shown_place;
 use crate::standing::{front_of, meant, question};
 use crate::telling::told_at;
 use crate::value::explain_value;
@@ -30,7 +31,7 @@ fn action(edit: &Edit) -> &'static str {
 /// An address as a place of the command line.
 pub(crate) fn address_text(alloc: Global, at: &Address) -> Result<String, AllocError> {
     match spell_place(alloc, at)? {
-        Some(text) => Ok(text),
+        Some(text) => shown_place(alloc, text.as_str()),
         None => String::from_str(alloc, "an index at which nothing can stand"),
     }
 }

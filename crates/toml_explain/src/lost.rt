@@ -40,14 +40,24 @@ fn first_lost(
     }
 }
 
-/// The first unit of the text before that no edit names, and that is not in the text after.
+/// What is said of a unit that is lost: it may still stand somewhere in the text after.
+fn lost_sentence(alloc: Global, judged: Judged<'_>, unit: &str) -> Result<String, AllocError> {
+    if judged.certificate.is_some() {
+        return format!(in alloc;
+            "no edit names this {unit}, and no pair of the certificate keeps it"
+        );
+    }
+    let after = judged.after.word;
+    format!(in alloc; "no edit names this {unit}, and it is not in its place in {after}")
+}
+
+/// The first unit of the text before that no edit names, and that is not kept in the text after.
 pub(crate) fn explain_lost(alloc: Global, judged: Judged<'_>) -> Result<String, AllocError>
     ensures { IfOk result (λ text. ShowsInFile judged.entry.before.word.now judged.entry.before.bytes.now (string_bytes text)) }
 {
     let Some((unit, span)) = first_lost(alloc, judged)? else {
         return plain(alloc, judged.before, "what no edit names is not kept");
     };
-    let after = judged.after.word;
-    let sentence = format!(in alloc; "no edit names this {unit}, and it is lost in {after}")?;
+    let sentence = lost_sentence(alloc, judged, unit)?;
     told_at(alloc, judged.before, Some(span), sentence)
 }

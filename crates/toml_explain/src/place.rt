@@ -43,29 +43,52 @@ pub(crate) fn shown_place(alloc: Global, place: &str) -> Result<String, AllocErr
     Ok(text)
 }
 
-/// Whether a bracket stands directly before a byte.
-fn is_behind_bracket(place: &[u8], at: usize) -> bool {
-    match at.checked_sub(1) {
-        Some(before) => place.get(before) == Some(&b'['),
-        None => false,
+/// The last byte of what stands before a byte and the one before it, 0 where there is none.
+fn last_two(front: &[u8]) -> (u8, u8) {
+    match front.split_last() {
+        Some((last, rest)) => (*last, rest.last().copied().unwrap_or(0)),
+        None => (0, 0),
     }
+}
+
+/// What is wrong with an index at its byte, where one was begun before it.
+fn index_sentence(front: &[u8], first: u8) -> Option<&'static str> {
+    match (last_two(front), first) {
+        ((b'0', b'['), b'0'..=b'9') => Some("an index has no 0 in front"),
+        ((b'-', b'['), b'0') => Some("an index from the end counts from 1, the last element"),
+        ((b'-', b'['), b'1'..=b'9') | ((b'[', _), b'0'..=b'9') => {
+            Some("an index is at most 18446744073709551615")
+        }
+        ((b'-', b'['), _) => Some("a number stands behind the hyphen of an index"),
+        ((b'[', _), b'a'..=b'z' | b'A'..=b'Z' | b'_' | b'"' | b'\'') => {
+            Some("an index stands in brackets, a name behind a dot")
+        }
+        ((b'[', _), _) => Some("a number, one behind a hyphen, or + stands in brackets"),
+        _ => None,
+    }
+}
+
+/// Whether a name may begin behind this: at the start, or behind a dot and whitespace.
+fn may_begin_name(front: &[u8]) -> bool {
+    matches!(front.trim_ascii().last(), None | Some(b'.'))
 }
 
 /// What is wrong with a place at a byte.
 fn place_sentence(place: &[u8], at: usize) -> &'static str {
-    let Some(rest) = place.get(at..) else {
+    let (Some(front), Some([first, ..])) = (place.get(..at), place.get(at..)) else {
         return "the place ends where something more is expected";
     };
-    match rest {
-        [] => "the place ends where something more is expected",
-        [b'a'..=b'z' | b'A'..=b'Z' | b'_' | b'"' | b'\'', ..] if is_behind_bracket(place, at) =>
-            "an index stands in brackets, a name behind a dot",
-        [b'"' | b'\'', ..] => "a string that is a name is not closed, or has what none may have",
-        [b'0'..=b'9', ..] =>
-            "an index is a number without a 0 in front, at most 18446744073709551615",
-        [0x80..=0xFF, ..] =>
-            "a name with other characters than A-Z, a-z, 0-9, - and _ stands in quotation marks",
-        [0..=0x1F | 0x7F, ..] => "a control character may not stand in a place",
+    if let Some(sentence) = index_sentence(front, *first) {
+        return sentence;
+    }
+    match *first {
+        b'"' | b'\'' if may_begin_name(front) => {
+            "a string that is a name is not closed, or has what none may have"
+        }
+        0x80..=0xFF if front.last() != Some(&b']') => {
+            "a name with other characters than A-Z, a-z, 0-9, - and _ stands in quotation marks"
+        }
+        0..=0x1F | 0x7F => "a control character may not stand in a place",
         _ => "something else is expected in a place",
     }
 }

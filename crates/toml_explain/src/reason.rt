@@ -127,7 +127,7 @@ pub fn explain_reason(
             plain(
                 alloc,
                 judged.after,
-                "a pair of the certificate names two units that are not the same",
+                "the pairs of the certificate do not rise, or one names no two units that are the same",
             )
         }
         Reason::Lost => explain_lost(alloc, judged),

@@ -7,6 +7,7 @@ ghost use Rattle.toml_explain.specs.Openings.{OpensInFile};
 use crate::excerpt::{Excerpt, line_number};
 use crate::input::Input;
 use crate::opening::opened;
+use crate::place::shown_place;
 use crate::rule::rule;
 use crate::spans::spans_at;
 use crate::words::{with_line, with_lines};
@@ -55,10 +56,16 @@ fn redefined_sentence(
 ) -> Result<String, AllocError> {
     let rule = rule(clash.first.role, clash.again.role);
     match spell_place(alloc, &redefined.address)? {
-        Some(address) => format!(in alloc; "{address} {rule}"),
-        None => format!(in alloc; "this {rule}"),
+        Some(address) if address.len() <= LONGEST => {
+            let shown = shown_place(alloc, address.as_str())?;
+            format!(in alloc; "{} {rule}", shown.as_str())
+        }
+        _ => format!(in alloc; "this {rule}"),
     }
 }
+
+/// How many bytes of an address stand in a sentence at most.
+const LONGEST: usize = 80;
 
 /// What is said of the first mention.
 const FIRST: &str = "first defined here";

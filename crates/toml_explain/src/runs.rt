@@ -107,7 +107,7 @@ fn bad_time(run: &[u8]) -> &'static str {
     if has_offset(run) {
         return "a time without a date has no offset";
     }
-    "this is no time of a day, with hours, minutes and seconds; a string stands between quotation marks"
+    "a time is written as 07:32:00 or 07:32:00.5, a string between quotation marks"
 }
 
 /// What is wrong with a run that begins in the shape of a date, by what stands behind that.
@@ -118,7 +118,7 @@ fn behind_date(rest: &[u8]) -> &'static str {
             "only a time follows a date behind a space, and a comma stands between two values"
         }
         [b' ' | b'T' | b't', ..] => {
-            "this is no date with hours, minutes and seconds, or a day or an hour that does not exist"
+            "a date with a time is written as 1979-05-27T07:32:00, an offset as Z or +01:00; or the day or the hour does not exist"
         }
         _ => "this is no date, and a string stands between quotation marks",
     }

@@ -7,7 +7,7 @@ use crate::runs::{bad_date, bad_number};
 use crate::strays::stray;
 use crate::token::token_span;
 use std::alloc::{AllocError, Global};
-use toml_text::Span;
+use toml_text::{MAX_LEN, Span};
 
 /// What is wrong with a control character, by its code point.
 fn bad_character(alloc: Global, bytes: &[u8], at: usize) -> Result<String, AllocError> {
@@ -82,6 +82,9 @@ pub(crate) fn byte_sentence(
     at: usize,
 ) -> Result<String, AllocError> {
     let fixed = match code {
+        101 if bytes.len() > MAX_LEN => {
+            "no UTF-8 stands here, or a character is cut: the text is longer than 16777216 bytes"
+        }
         101 => "this byte is no UTF-8, and the file may be in another encoding",
         103 => return bad_character(alloc, bytes, at),
         104 => return unexpected_sentence(alloc, bytes, at),

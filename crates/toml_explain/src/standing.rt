@@ -3,6 +3,7 @@ ghost use Rattle.std.specs.Prelude.{◌≡◌, IfOk, IfSome};
 ghost use Rattle.toml_names.specs.reader.Parts.{IsPart};
 ghost use Rattle.toml_explain.specs.Standing.{IsFrontOf, IsMeant, IsNear, IsNearest, near_limit};
 
+use crate::place::shown_place;
 use std::alloc::{AllocError, Global};
 use strsim::osa_distance;
 use toml_names::{Name, NamedText, Step};
@@ -79,13 +80,14 @@ fn nearest<'m>(
     Ok(best)
 }
 
-/// A name between quotation marks.
+/// A name between quotation marks, as it is shown.
 pub(crate) fn quoted(alloc: Global, name: &str) -> Result<String, AllocError> {
     let spelled = spell_key(alloc, name)?;
-    if spelled.as_str().starts_with('"') {
-        return Ok(spelled);
+    let shown = shown_place(alloc, spelled.as_str())?;
+    if shown.as_str().starts_with('"') {
+        return Ok(shown);
     }
-    format!(in alloc; "\"{}\"", spelled.as_str())
+    format!(in alloc; "\"{}\"", shown.as_str())
 }
 
 /// The name that may be meant, where the step behind a front is a name and one of its table is near.

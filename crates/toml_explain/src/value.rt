@@ -9,6 +9,7 @@ use crate::expected::unexpected_in_value;
 use crate::input::Input;
 use crate::opening::{bare_opened, opened};
 use crate::phrases::begins_none;
+use crate::place::shown_place;
 use crate::sentence::{byte_sentence, meant_at};
 use crate::standing::quoted;
 use crate::strays::stray;
@@ -49,9 +50,10 @@ pub(crate) fn code_of(fault: SyntaxFault) -> Result<(u16, usize), AllocError> {
 
 /// How the text of a value would be given as a string; nothing, where it begins as a string, an array or an inline table does.
 fn as_string(alloc: Global, value: &str) -> Result<String, AllocError> {
+    let is_hidden = shown_place(alloc, value)?.as_str() != value;
     match value.as_bytes() {
         [b'"' | b'\'' | b'[' | b'{', ..] => Ok(String::new(alloc)),
-        bytes if bytes.len() > MAX_SHOWN => {
+        bytes if is_hidden || bytes.len() > MAX_SHOWN => {
             String::from_str(
                 alloc,
                 "; `set` and `insert` take it as a string by --string",
