@@ -4,7 +4,7 @@ use Rattle.std.proofs.lemmas.List.{drop_more, map-append, take_more, take-append
 use Rattle.std.specs.declared.alloc.Global.{Global}
 use Rattle.toml_commands.specs.declared.answering.Source.{Source}
 use Rattle.toml_delivery.specs.Outcomes.{texts_of}
-use Rattle.tomled.specs.Reads.{GaveAll, Read, StoppedAt, all_good}
+use Rattle.tomled.specs.Reads.{GaveAll, IsOfWord, Read, StoppedAt, all_good}
 use Rattle.tomled.specs.declared.reading.FileFault.{FileFault}
 
 -- of nothing
@@ -26,11 +26,12 @@ module _ (sources : List Source) (i : ℕ) (low : i < length sources) (d : Sourc
   }
 
   -- of one that failed
-  pub stopped : (vs : List (Vec ℕ Global)) (fault : FileFault) (reads : List Read) → GaveAll (take i sources) (texts_of vs) reads
+  pub stopped : (vs : List (Vec ℕ Global)) (fault : FileFault) → IsOfWord (get_or sources i d).word.now fault → (reads : List Read) → GaveAll (take i sources) (texts_of vs) reads
       → StoppedAt sources fault (reads ++ record { source = get_or sources i d; gave = Err fault } ∷ [])
-  stopped vs fault reads before = record {
+  stopped vs fault is reads before = record {
     first = take i sources;
     stop = get_or sources i d;
+    word = is;
     left = drop (i + 1) sources;
     are = sym (take-append-drop i sources) ∙ ap (λ l. take i sources ++ l) (drop_more sources i d low);
     texts = texts_of vs;

@@ -1,11 +1,12 @@
 -- What a run comes to, one thing behind the other.
-use Rattle.std.proofs.Common.{◌≡◌, ◌⊎◌, ℕ, Bool, List, [], Option, Vec, Result, Ok, Err, length, inl, inr, refl, ap, ◌∙◌, subst}
+use Rattle.std.proofs.Common.{◌≡◌, ℕ, List, [], Option, Vec, Result, Ok, Err, length, inl, inr, refl, ap, ◌∙◌, subst}
 use Rattle.std.specs.declared.alloc.Global.{Global}
 use Rattle.toml_replace.specs.Calls.{Call, Made}
 use Rattle.toml_words.specs.Marking.{marked_words}
-use Rattle.toml_words.specs.Request.{IsFaultIn, IsRequestIn}
+use Rattle.toml_words.specs.Request.{IsFaultIn, IsRequestIn, asked_by}
 use Rattle.toml_words.specs.declared.asking.WordsFault.{WordsFault}
 use Rattle.toml_words.specs.declared.request.Request.{Request}
+use Rattle.toml_commands.specs.Explaining.{explains}
 use Rattle.toml_delivery.specs.Counts.{Counted}
 use Rattle.toml_delivery.specs.Delivery.{IsDelivered, IsSent}
 use Rattle.toml_delivery.specs.Delivery as delivery
@@ -14,8 +15,8 @@ use Rattle.toml_delivery.specs.declared.fault.RunFault.{RunFault}
 use Rattle.toml_delivery.specs.declared.fault.RunFault.TheVariants as faults
 use Rattle.toml_delivery.specs.declared.outcome.Outcome.{Outcome}
 use Rattle.tomled.specs.Asking.{Asked}
-use Rattle.tomled.specs.Ending.{RunEnd, IsGivenOut, IsObeyed, IsPrintedAlone, IsPrintedIfAny, IsServed, IsWrittenOut, TellsWords, IsEndOf, IsWholeRun}
-use Rattle.tomled.specs.Finishing.{IsFileFault, IsSettled, written}
+use Rattle.tomled.specs.Ending.{RunEnd, IsGivenOut, IsObeyed, IsPrintedAlone, IsPrintedIfAny, IsServed, IsWrittenOut, TellsUnopened, TellsWords, IsEndOf, IsWholeRun}
+use Rattle.tomled.specs.Finishing.{IsSettled, written}
 use Rattle.tomled.specs.Opening.{AreOpened, Opening}
 use Rattle.tomled.specs.Reads.{Read}
 use Rattle.tomled.specs.Replies.{IsReply}
@@ -77,11 +78,11 @@ module _ {F O E : Type 0} (fc : F → Option (List ℕ)) (oc : O → Option (Lis
   module _ (request : Request) where
     -- files are opened, and then all is written
     pub all_written : (o : Outcome) (v : Vec (Counted F) Global) (files : List (Counted F)) → files ≡ v.items → length v.items ≡ length o.files.items → (given : RunEnd F)
-        → IsDelivered fc oc ec files given.1.items old.out new.out old.err new.err o given.0 → (a b : Option (List (Opening F))) → Asked a b (AreOpened (words_of (written request)) (Ok v))
+        → IsDelivered fc oc ec files given.1.items old.out new.out old.err new.err o given.0 → (a b : Option (List (Opening F))) → Asked a b (AreOpened (words_of (written request)) (length o.files.items) (Ok v))
         → Asked a b (IsWrittenOut fc oc ec old new request o (Ok given))
     all_written o v files are count given d a b asked =
         let d' = subst (λ l. IsDelivered fc oc ec l given.1.items old.out new.out old.err new.err o given.0) are d in
-        so (AreOpened (words_of (written request)) (Ok v)) (IsWrittenOut fc oc ec old new request o (Ok given)) a b asked
+        so (AreOpened (words_of (written request)) (length o.files.items) (Ok v)) (IsWrittenOut fc oc ec old new request o (Ok given)) a b asked
         (λ xs h. record { files = v.items; count = count; opened = h; delivered = d' })
 
     pub is_given : (left : Outcome) (given : RunEnd F) (a b : Option (List (Opening F))) → Asked a b (IsWrittenOut fc oc ec old new request left (Ok given))
@@ -91,11 +92,11 @@ module _ {F O E : Type 0} (fc : F → Option (List ℕ)) (oc : O → Option (Lis
 
     -- a file could not be opened, and that is told
     pub not_given : (between : Streams O E) (left : Outcome) (fault : FileFault) (o : Result Outcome RunFault) (result : Result (RunEnd F) RunFault)
-        → ((explained : Bool) × (word : List ℕ) × IsFileFault explained word o) ⊎ (o ≡ Err faults.Memory) → IsPrintedIfAny fc oc ec between new o result
+        → TellsUnopened (explains (asked_by request)) fault o → IsPrintedIfAny fc oc ec between new o result
         → (a b : Option (List (Opening F))) → Asked a b (IsWrittenOut fc oc ec old between request left (Err fault)) → Asked a b (IsGivenOut fc oc ec old new request left result)
     not_given between left fault o result is printed a b asked =
         so (IsWrittenOut fc oc ec old between request left (Err fault)) (IsGivenOut fc oc ec old new request left result) a b asked
-        (λ xs h. inr (record { opened = h.0; told = o; fault = is; printed = subst (λ s. IsPrintedIfAny fc oc ec s new o result) h.1 printed }))
+        (λ xs h. inr (record { fault = fault; why = h.0; told = o; tells = is; printed = subst (λ s. IsPrintedIfAny fc oc ec s new o result) h.1 printed }))
 
 module _ {F O E : Type 0} (fc : F → Option (List ℕ)) (oc : O → Option (List ℕ)) (ec : E → Option (List ℕ)) (old : Streams O E) where
   module _ (request : Request) (a b : Option (List Read)) (c d : Option (List Call)) where

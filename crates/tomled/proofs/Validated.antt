@@ -10,7 +10,8 @@ use Rattle.toml_commands.specs.declared.answering.Source.{Source}
 use Rattle.toml_delivery.specs.Outcomes.{Fails}
 use Rattle.toml_delivery.specs.declared.fault.RunFault.{RunFault}
 use Rattle.toml_delivery.specs.declared.outcome.Outcome.{Outcome}
-use Rattle.tomled.specs.Reads.{Read}
+use Rattle.tomled.specs.Finishing.{TellsFault}
+use Rattle.tomled.specs.Reads.{IsOfWord, Read}
 use Rattle.tomled.specs.Validating.{IsOneTold, IsOutcomeOf, IsValidation, IsOfDocument, IsOfNone, IsStatusOf, IsUnread, SomeRead, TellEach, TellsGiven, TellsRead, WasRead, all_told, words_of}
 use Rattle.tomled.specs.declared.reading.FileFault.{FileFault}
 use Rattle.tomled.specs.declared.reading.FileFault.TheVariants.{Failed, NoMemory}
@@ -142,12 +143,13 @@ one_more_told profile files i d status text reads r o low before word h =
     }
 
 -- what could not be read
-pub told_fault : (profile : Profile) (source : Source) → sought source ≡ document_at true source.word.now → (fault : FileFault) (result : Result Outcome RunFault)
-    → IsOutcomeOf true fault result → IsOneTold profile source.word.now result (record { source = source; gave = Err fault } ∷ [])
-told_fault profile source sought_as (Failed word error) (Ok o) h = (record { source = source; gave = Err (Failed word error) }, refl, refl, (sought_as, h))
-told_fault profile source sought_as NoMemory (Ok o) h = absurd h
-told_fault profile source sought_as (Failed word error) (Err f) h = h
-told_fault profile source sought_as NoMemory (Err f) h = h
+pub told_fault : (profile : Profile) (source : Source) → sought source ≡ document_at true source.word.now → (fault : FileFault) → IsOfWord source.word.now fault
+    → (result : Result Outcome RunFault) → IsOutcomeOf true fault result → IsOneTold profile source.word.now result (record { source = source; gave = Err fault } ∷ [])
+told_fault profile source sought_as (Failed word error) is (Ok o) h =
+    (record { source = source; gave = Err (Failed word error) }, refl, refl, (sought_as, subst (λ w. TellsFault true w o) is h))
+told_fault profile source sought_as NoMemory is (Ok o) h = absurd h
+told_fault profile source sought_as (Failed word error) is (Err f) h = h
+told_fault profile source sought_as NoMemory is (Err f) h = h
 
 -- one file behind the others
 pub more_told : (profile : Profile) (files : List (Bor (List ℕ))) (i : ℕ) (d : Bor (List ℕ)) (status : ℕ) (text : List ℕ) (o : Outcome) → i < length files

@@ -3,12 +3,13 @@ use Rattle.std.specs.Prelude.{◌≡◌, ◌⊎◌, ◌<◌, ◌≤◌, ℕ, Boo
 use Rattle.std.specs.declared.alloc.Global.{Global}
 use Rattle.toml_replace.specs.Calls.{Call, Made}
 use Rattle.toml_words.specs.Marking.{marked_words}
-use Rattle.toml_words.specs.Request.{IsFaultIn, IsRequestIn}
+use Rattle.toml_words.specs.Request.{IsFaultIn, IsRequestIn, asked_by}
 use Rattle.toml_words.specs.Told.{IsTold}
 use Rattle.toml_words.specs.declared.asking.WordsFault.{WordsFault}
 use Rattle.toml_words.specs.declared.asking.WordsFault.TheVariants as words
 use Rattle.toml_words.specs.declared.request.Request.{Request}
 use Rattle.toml_words.specs.declared.told.ParserText.{ParserText}
+use Rattle.toml_commands.specs.Explaining.{explains}
 use Rattle.toml_delivery.specs.Counts.{Counted}
 use Rattle.toml_delivery.specs.Delivery.{IsDelivered, IsSent}
 use Rattle.toml_delivery.specs.Delivery as delivery
@@ -19,11 +20,12 @@ use Rattle.toml_delivery.specs.declared.fault.RunFault.TheVariants as faults
 use Rattle.toml_delivery.specs.declared.outcome.Outcome.{Outcome}
 use Rattle.tomled.specs.Asking.{Asked}
 use Rattle.tomled.specs.Finishing.{IsFileFault, IsSettled, written}
-use Rattle.tomled.specs.Opening.{GaveFiles, Opening, OpensFront}
+use Rattle.tomled.specs.Opening.{AreUnopened, GaveFiles, Opening}
 use Rattle.tomled.specs.Reads.{Read}
 use Rattle.tomled.specs.Replies.{IsReply}
 use Rattle.tomled.specs.Validating.{words_of}
 use Rattle.tomled.specs.declared.reading.FileFault.{FileFault}
+use Rattle.tomled.specs.declared.reading.FileFault.TheVariants.{Failed, NoMemory}
 use Rattle.tomled.specs.declared.replying.Reply.{Reply}
 use Rattle.tomled.specs.declared.serving.System.{System}
 use Rattle.tomled.specs.declared.finishing.Streams.{Streams}
@@ -50,6 +52,11 @@ IsOutcomeOfWords (words.Parser error) (Err fault) = fault ≡ faults.Memory
 IsOutcomeOfWords words.Nothing result = result ≡ Err faults.Words
 IsOutcomeOfWords words.NoMemory result = result ≡ Err faults.Memory
 
+-- what is told of files that were not opened: a file fault of the word of the one that failed, or want of memory
+abbrev pub TellsUnopened : Bool → FileFault → Result Outcome RunFault → Type 0
+TellsUnopened explains (Failed word error) told = IsFileFault explains word.now told
+TellsUnopened explains NoMemory told = told ≡ Err faults.Memory
+
 -- What comes to writers of which these are the contents: to the files, and to both outputs, as they are before and behind.
 module _ {F O E : Type 0} (file-contents : F → Option (List ℕ)) (out-contents : O → Option (List ℕ)) (err-contents : E → Option (List ℕ)) (old new : Streams O E) where
   -- Both outputs get their bytes, standard output first, up to the first fault; behind a fault standard error is told so, and the status
@@ -73,23 +80,24 @@ module _ {F O E : Type 0} (file-contents : F → Option (List ℕ)) (out-content
   -- It is written so; or a file could not be opened, none behind it was, and nothing is written or printed.
   abbrev pub IsWrittenOut : Request → Outcome → Result (RunEnd F) FileFault → List (Opening F) → Type 0
   IsWrittenOut request o (Ok given) openings = WritesAll request o given openings
-  IsWrittenOut request o (Err fault) openings = OpensFront (words_of (written request)) openings × (new ≡ old)
+  IsWrittenOut request o (Err fault) openings = AreUnopened (words_of (written request)) (length o.files.items) fault openings × (new ≡ old)
 
   -- an outcome is printed; or there is none, and nothing is
   abbrev pub IsPrintedIfAny : Result Outcome RunFault → Result (RunEnd F) RunFault → Type 0
   IsPrintedIfAny (Ok o) result = (given : RunEnd F) × (result ≡ Ok given) × IsPrintedAlone o given
   IsPrintedIfAny (Err fault) result = (result ≡ Err fault) × (new ≡ old)
 
-  -- A file could not be opened, none behind it was, and none is written: a file fault is told, or there was no memory.
-  pub record IsUnopened (request : Request) (result : Result (RunEnd F) RunFault) (openings : List (Opening F)) : Type 0 where
-    pub opened : OpensFront (words_of (written request)) openings
+  -- A file of the outcome could not be opened, none behind it was, and none is written: that is told, by the word of that file.
+  pub record IsUnopened (request : Request) (o : Outcome) (result : Result (RunEnd F) RunFault) (openings : List (Opening F)) : Type 0 where
+    pub fault : FileFault
+    pub why : AreUnopened (words_of (written request)) (length o.files.items) fault openings
     pub told : Result Outcome RunFault
-    pub fault : ((explained : Bool) × (word : List ℕ) × IsFileFault explained word told) ⊎ (told ≡ Err faults.Memory)
+    pub tells : TellsUnopened (explains (asked_by request)) fault told
     pub printed : IsPrintedIfAny told result
 
   -- What is left of an outcome is given out: its files and both outputs are written, or a file could not be opened.
   abbrev pub IsGivenOut : Request → Outcome → Result (RunEnd F) RunFault → List (Opening F) → Type 0
-  IsGivenOut request o result openings = ((given : RunEnd F) × (result ≡ Ok given) × WritesAll request o given openings) ⊎ IsUnopened request result openings
+  IsGivenOut request o result openings = ((given : RunEnd F) × (result ≡ Ok given) × WritesAll request o given openings) ⊎ IsUnopened request o result openings
 
   -- so of what is left, if anything is
   abbrev pub IsLeftGiven : Request → Result Outcome RunFault → Result (RunEnd F) RunFault → List (Opening F) → Type 0

@@ -1,11 +1,16 @@
 -- What is read by the words of a command line.
-use Rattle.std.specs.Prelude.{◌≡◌, ◌⊎◌, ◌++◌, ℕ, List, [], ◌∷◌, map, Option, Result, Ok, Err, Vec}
+use Rattle.std.specs.Prelude.{◌≡◌, ◌⊎◌, ◌++◌, ℕ, List, [], ◌∷◌, map, Option, Result, Ok, Err, Vec, ⊤}
 use Rattle.std.specs.declared.alloc.Global.{Global}
 use Rattle.toml_commands.specs.declared.answering.Source.{Source}
 use Rattle.toml_delivery.specs.Outcomes.{texts_of}
 use Rattle.toml_delivery.specs.Takes.{IsLost, IsTaken}
 use Rattle.tomled.specs.declared.reading.FileFault.{FileFault}
-use Rattle.tomled.specs.declared.reading.FileFault.TheVariants.{NoMemory}
+use Rattle.tomled.specs.declared.reading.FileFault.TheVariants.{Failed, NoMemory}
+
+-- a fault of the word, or want of memory
+abbrev pub IsOfWord : List ℕ → FileFault → Type 0
+IsOfWord word (Failed path error) = path.now ≡ word
+IsOfWord word NoMemory = ⊤
 
 -- a source, and its bytes or why it was not read
 pub record Read : Type 0 where
@@ -30,10 +35,11 @@ pub record GaveAll (sources : List Source) (texts : List (List ℕ)) (reads : Li
   pub order : sources_of reads ≡ sources
   pub gave : map (λ r. r.gave) reads ≡ all_good texts
 
--- the first of these sources were read, one after the other; all gave their bytes but the last, which gave the fault
+-- the first of these sources were read, one after the other; all gave their bytes but the last, which gave the fault, of its own word
 pub record StoppedAt (sources : List Source) (fault : FileFault) (reads : List Read) : Type 0 where
   pub first : List Source
   pub stop : Source
+  pub word : IsOfWord stop.word.now fault
   pub left : List Source
   pub are : sources ≡ first ++ stop ∷ left
   pub texts : List (List ℕ)

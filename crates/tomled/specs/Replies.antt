@@ -25,7 +25,7 @@ pub record IsAnswered (request : Request) (reads : List Read) (reply : Reply) : 
   pub answer : IsAnswer (asked_by request) (texts_of reply.inputs.items) plain
   pub said : IsExplained request reply.inputs.items plain reply.outcome
 
--- One could not be read, and none behind it was: a file fault.
+-- One could not be read, and none behind it was: a file fault of its word.
 pub record StopsReading (request : Request) (reads : List Read) (reply : Reply) : Type 0 where
   pub sources : List Source
   pub order : map sought sources ≡ words_read (asked_by request)

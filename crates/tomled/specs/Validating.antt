@@ -20,10 +20,10 @@ IsOutcomeOf explains (Failed word error) (Ok o) = TellsFault explains word.now o
 IsOutcomeOf explains NoMemory (Ok o) = ⊥
 IsOutcomeOf explains fault (Err f) = f ≡ Memory
 
--- what a file comes to: what is told of its bytes, or that it could not be read
+-- what a file comes to: what is told of its bytes, or a file fault of its word
 abbrev pub TellsGiven : Profile → List ℕ → Result (List ℕ) FileFault → Outcome → Type 0
 TellsGiven profile word (Ok bytes) o = IsValidated profile word bytes o
-TellsGiven profile word (Err (Failed path error)) o = TellsFault true path.now o
+TellsGiven profile word (Err (Failed path error)) o = TellsFault true word o
 TellsGiven profile word (Err NoMemory) o = ⊥
 
 -- It was read as a document, standard input where its word is `-`; and that is told of it.

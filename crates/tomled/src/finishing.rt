@@ -3,7 +3,7 @@ ghost use Rattle.std.specs.Prelude.{◌≡◌, ◌↔◌, IsTrue};
 ghost use Rattle.toml_replace.specs.Calls.{Made};
 ghost use Rattle.toml_replace.specs.Replacement.{pair_of};
 ghost use Rattle.tomled.specs.Asking.{Asked};
-ghost use Rattle.tomled.specs.Ending.{IsGivenOut, IsPrintedAlone, IsPrintedIfAny};
+ghost use Rattle.tomled.specs.Ending.{IsGivenOut, IsPrintedAlone, IsPrintedIfAny, TellsUnopened};
 ghost use Rattle.tomled.specs.Finishing.{HasNamed, IsCertified, IsCompared, IsEdited, IsFileFault, IsFirst, IsReplaced, IsSettled, IsPlaced, IsUnreplaced};
 ghost use Rattle.tomled.specs.Finishing.{all_compared, certificate_at, compared, judged_compared, path_or, words_compared, written};
 
@@ -37,11 +37,20 @@ pub fn given_out<'a, S: Opener<F>, F: Write + Drop, O: Write, E: Write>(
 {
     match written_out(alloc, opener, request, &left, streams) {
         Ok(given) => Ok(given),
-        Err(FileFault::Failed { word, error }) => {
-            let told = failed(alloc, explains(request), word, error);
+        Err(fault) => {
+            let told = unopened(alloc, explains(request), fault);
             printed_if_any(alloc, told, streams)
         }
-        Err(FileFault::NoMemory) => Err(RunFault::Memory),
+    }
+}
+
+/// What an outcome comes to of which a file was not opened.
+fn unopened(alloc: Global, explains: bool, fault: FileFault<'_>) -> Result<Outcome, RunFault>
+    ensures { TellsUnopened explains fault.entry result }
+{
+    match fault {
+        FileFault::Failed { word, error } => failed(alloc, explains, word, error),
+        FileFault::NoMemory => Err(RunFault::Memory),
     }
 }
 

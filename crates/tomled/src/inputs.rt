@@ -1,7 +1,7 @@
 //! What is read by the words of the command line.
-ghost use Rattle.std.specs.Prelude.{List, [], ◌∷◌, Option};
+ghost use Rattle.std.specs.Prelude.{List, [], ◌∷◌, Option, IfErr};
 ghost use Rattle.tomled.specs.Asking.{Adds};
-ghost use Rattle.tomled.specs.Reads.{Read, read_of};
+ghost use Rattle.tomled.specs.Reads.{IsOfWord, Read, read_of};
 
 use crate::reading::{FileFault, read};
 use std::alloc::Global;
@@ -14,9 +14,10 @@ pub trait Inputs {
     /// The reads so far, in order. None where no list of them is kept: of such inputs the clauses claim nothing.
     ghost reads: { Self → Option (List Read) };
 
-    /// The bytes of a source, and of a longer one the first as many as its limit; or why it was not read.
+    /// The bytes of a source, and of a longer one the first as many as its limit; or why it was not read, by its word.
     fn read<'a>(&mut self, alloc: Global, source: Source<'a>) -> Result<Vec<u8>, FileFault<'a>>
-        ensures { Adds (read_of source.entry result ∷ []) (reads self.old) (reads self.new) };
+        ensures added { Adds (read_of source.entry result ∷ []) (reads self.old) (reads self.new) }
+        ensures word { IfErr result (IsOfWord source.entry.word.now) };
 }
 
 /// The files and the standard input of the process. No list of the reads is kept: no contract can say what a file gives.

@@ -84,7 +84,7 @@ fn outputs<'a, S: Opener<F>, F: Drop>(
     outcome: &Outcome,
 ) -> Result<Vec<Counting<F>>, FileFault<'a>>
     ensures count { IfOk result (λ files. length files.items ≡ length outcome.now.files.items) }
-    ensures opened { Asked (S.opened opener.old) (S.opened opener.new) (AreOpened (words_of (written request.now)) result) }
+    ensures opened { Asked (S.opened opener.old) (S.opened opener.new) (AreOpened (words_of (written request.now)) (length outcome.now.files.items) result) }
 {
     let Ok(mut files) = Vec::with_capacity(alloc, outcome.files.len()) else {
         return Err(FileFault::NoMemory);

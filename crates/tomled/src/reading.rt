@@ -1,8 +1,8 @@
 //! Reading what the words name.
-ghost use Rattle.std.specs.Prelude.{IfOk, string_bytes};
+ghost use Rattle.std.specs.Prelude.{IfErr, IfOk, string_bytes};
 ghost use Rattle.tomled.specs.Asking.{Asked};
 ghost use Rattle.tomled.specs.Finishing.{HasReason, TellsFault};
-ghost use Rattle.tomled.specs.Reads.{AreBytesOf, AreRead};
+ghost use Rattle.tomled.specs.Reads.{AreBytesOf, AreRead, IsOfWord};
 ghost use Rattle.tomled.specs.Validating.{IsOutcomeOf};
 
 use crate::inputs::Inputs;
@@ -27,7 +27,9 @@ pub enum FileFault<'a> {
 
 impl<'a> FileFault<'a> {
     /// Why a file was not read: an error of the system for want of memory is that.
-    fn of(word: &'a str, error: io::Error) -> FileFault<'a> {
+    fn of(word: &'a str, error: io::Error) -> FileFault<'a>
+        ensures { IsOfWord word.entry.now result }
+    {
         match RunFault::of_kind(error.kind()) {
             RunFault::Memory => FileFault::NoMemory,
             _ => FileFault::Failed { word, error },
@@ -104,7 +106,9 @@ pub fn read_all<'a, I: Inputs>(
 pub fn read<'a, R: Files + Input + AllocGlobal>(
     rt: &R,
     source: Source<'a>,
-) -> Result<Vec<u8>, FileFault<'a>> {
+) -> Result<Vec<u8>, FileFault<'a>>
+    ensures { IfErr result (IsOfWord source.entry.word.now) }
+{
     let word = source.word;
     if source.may_be_input && is_input(word) {
         return read_from(rt.alloc(), rt.reader(), source);
@@ -121,7 +125,8 @@ fn read_from<'a, R: Read + Drop>(
     reader: R,
     source: Source<'a>,
 ) -> Result<Vec<u8>, FileFault<'a>>
-    ensures { AreBytesOf source.entry.limit (R.remaining reader) result }
+    ensures bytes { AreBytesOf source.entry.limit (R.remaining reader) result }
+    ensures word { IfErr result (IsOfWord source.entry.word.now) }
 {
     let mut reader = Reasoned::of(reader);
     match take(alloc, &mut Counting::new(&mut reader), source.limit) {

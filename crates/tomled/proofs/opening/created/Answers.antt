@@ -7,4 +7,4 @@ use Rattle.tomled.proofs.opening.created.Goals as goal
 pub returns-in-Err : goal.returns-in-Err
 returns-in-Err g c =
     one (IsCreated {F = g.row.F.Denot} c.args.word.now (Err (Failed c.args.word c.in-Err.error))) (record { path = c.args.word.now; gave = Err c.in-Err.error })
-    (g.S.Opener.opened c.args.opener.now) (g.S.Opener.opened c.create.new.self) c.in-Err.ensures (c.in-Err.error, refl)
+    (g.S.Opener.opened c.args.opener.now) (g.S.Opener.opened c.create.new.self) c.in-Err.ensures (refl, refl)

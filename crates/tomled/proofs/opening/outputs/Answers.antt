@@ -8,7 +8,7 @@ use Rattle.tomled.specs.Opening.{AreOpened, GaveFiles, IsCreated, OpensFront, un
 use Rattle.tomled.specs.Validating.{words_of}
 use Rattle.tomled.specs.declared.reading.FileFault.TheVariants.{NoMemory}
 use Rattle.tomled.proofs.Asking.{more, nothing}
-use Rattle.tomled.proofs.Opened.{none_opened, one_opened, stopped_front, word_at}
+use Rattle.tomled.proofs.Opened.{lacks_path, none_opened, one_opened, stopped_front, stopped_opening, too_few, word_at}
 use Rattle.tomled.proofs.opening.outputs.Goals as goal
 
 pub loop-index-init : goal.loop-index-init
@@ -27,11 +27,12 @@ returns-in_err-file-clause-opened g c =
     let files = c.loop-index.files.items in
     let word = c.in-Some.word in
     let fault = c.in_err-file.field-0.0 in
+    let count = length c.args.outcome.now.files.items in
     let there : slice_get paths (length files) ≡ Some word.now =
     subst (λ n. slice_get paths n ≡ Some word.now) (sym c.loop-index.invariant.count) (word_at (written c.args.request.now) c.loop-index.index word (sym c.path_of.ensures ∙ c.in-Some.is)) in
     rw (p.1, p.2)
-    (more (GaveFiles {F = g.row.F.Denot} paths files) (IsCreated {F = g.row.F.Denot} word.now (Err fault)) (AreOpened {F = g.row.F.Denot} paths (Err fault)) _ _ _ c.loop-index.invariant.opened c.in_err-file.ensures
-    (λ xs ys h q. subst (λ l. OpensFront {F = g.row.F.Denot} paths (xs ++ l)) (sym q.1) (stopped_front paths files xs h (record { path = word.now; gave = Err q.0 }) there)))
+    (more (GaveFiles {F = g.row.F.Denot} paths files) (IsCreated {F = g.row.F.Denot} word.now (Err fault)) (AreOpened {F = g.row.F.Denot} paths count (Err fault)) _ _ _ c.loop-index.invariant.opened c.in_err-file.ensures
+    (λ xs ys h q. stopped_opening paths count files xs h word.now there fault ys q))
 
 pub returns-in_default-push-clause-opened : goal.returns-in_default-push-clause-opened
 returns-in_default-push-clause-opened g c =
@@ -41,7 +42,7 @@ returns-in_default-push-clause-opened g c =
     let file = c.in_ok-file.file in
     let there : slice_get paths (length files) ≡ Some word.now =
     subst (λ n. slice_get paths n ≡ Some word.now) (sym c.loop-index.invariant.count) (word_at (written c.args.request.now) c.loop-index.index word (sym c.path_of.ensures ∙ c.in-Some.is)) in
-    more (GaveFiles {F = g.row.F.Denot} paths files) (IsCreated {F = g.row.F.Denot} word.now (Ok file)) (AreOpened {F = g.row.F.Denot} paths (Err NoMemory)) _ _ _ c.loop-index.invariant.opened c.in_ok-file.ensures
+    more (GaveFiles {F = g.row.F.Denot} paths files) (IsCreated {F = g.row.F.Denot} word.now (Ok file)) (AreOpened {F = g.row.F.Denot} paths (length c.args.outcome.now.files.items) (Err NoMemory)) _ _ _ c.loop-index.invariant.opened c.in_ok-file.ensures
     (λ xs ys h q. subst (λ l. OpensFront {F = g.row.F.Denot} paths (xs ++ l)) (sym q) (stopped_front paths files xs h (record { path = word.now; gave = Ok file }) there))
 
 pub loop-index-preserved : goal.loop-index-preserved

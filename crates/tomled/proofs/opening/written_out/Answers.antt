@@ -15,7 +15,7 @@ pub returns-in-Err : goal.returns-in-Err
 returns-in-Err g c =
     let request = c.args.request.now in
     let fault = c.in-Err.fault in
-    so (AreOpened {F = g.row.F.Denot} (words_of (written request)) (Err fault))
+    so (AreOpened {F = g.row.F.Denot} (words_of (written request)) (length c.args.outcome.now.files.items) (Err fault))
     (IsWrittenOut g.F.Write.contents g.O.Write.contents g.E.Write.contents c.args.streams.now c.args.streams.now request c.args.outcome.now (Err fault))
     _ _ c.in-Err.ensures.opened (λ xs h. (h, refl))
 

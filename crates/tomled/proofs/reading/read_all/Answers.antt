@@ -15,13 +15,13 @@ returns-in_err-bytes g c =
     let i = c.loop-source.source-index in
     let vs = c.loop-source.list.items in
     rw (p.1, p.2)
-    (one_more (GaveAll (take i sources) (texts_of vs)) (AreRead sources (Err c.in_err-bytes.field-0.0)) _ _ _ _ c.loop-source.invariant c.in_err-bytes.ensures
-    (λ xs h. inr (stopped sources i c.loop-source-test.true _ vs c.in_err-bytes.field-0.0 xs h)))
+    (one_more (GaveAll (take i sources) (texts_of vs)) (AreRead sources (Err c.in_err-bytes.field-0.0)) _ _ _ _ c.loop-source.invariant c.in_err-bytes.ensures.added
+    (λ xs h. inr (stopped sources i c.loop-source-test.true _ vs c.in_err-bytes.field-0.0 c.in_err-bytes.ensures.word xs h)))
 
 pub returns-in_default : goal.returns-in_default
 returns-in_default g c =
     let sources = c.args.sources.now in
-    one_more (GaveAll (take c.loop-source.source-index sources) (texts_of c.loop-source.list.items)) (AreRead sources (Err NoMemory)) _ _ _ _ c.loop-source.invariant c.in_ok-bytes.ensures (λ xs h. inl refl)
+    one_more (GaveAll (take c.loop-source.source-index sources) (texts_of c.loop-source.list.items)) (AreRead sources (Err NoMemory)) _ _ _ _ c.loop-source.invariant c.in_ok-bytes.ensures.added (λ xs h. inl refl)
 
 pub loop-source-preserved : goal.loop-source-preserved
 loop-source-preserved g c =
@@ -29,5 +29,5 @@ loop-source-preserved g c =
     let i = c.loop-source.source-index in
     let vs = c.loop-source.list.items in
     subst (λ l. Asked (g.I.Inputs.reads c.args.inputs.now) (g.I.Inputs.reads c.read.new.self) (GaveAll (take (i + 1) sources) (texts_of l))) (sym c.in-Ok-push.ensures.items)
-    (one_more (GaveAll (take i sources) (texts_of vs)) (GaveAll (take (i + 1) sources) (texts_of (vs ++ c.in_ok-bytes.bytes ∷ []))) _ _ _ _ c.loop-source.invariant c.in_ok-bytes.ensures
+    (one_more (GaveAll (take i sources) (texts_of vs)) (GaveAll (take (i + 1) sources) (texts_of (vs ++ c.in_ok-bytes.bytes ∷ []))) _ _ _ _ c.loop-source.invariant c.in_ok-bytes.ensures.added
     (λ xs h. gave_more sources i c.loop-source-test.true _ vs c.in_ok-bytes.bytes xs h))

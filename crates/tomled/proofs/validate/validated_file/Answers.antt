@@ -10,12 +10,12 @@ use Rattle.tomled.proofs.validate.validated_file.Goals as goal
 pub returns-in_err-validated_bytes-in-Ok : goal.returns-in_err-validated_bytes-in-Ok
 returns-in_err-validated_bytes-in-Ok g c =
     let p = err_from_is_err_and c.from_residual.result c.from_residual.ensures.1 in
-    rw (p.1, p.2) (one (IsOneTold c.args.profile c.args.file.now (Err Memory)) _ _ _ c.in-Ok.ensures refl)
+    rw (p.1, p.2) (one (IsOneTold c.args.profile c.args.file.now (Err Memory)) _ _ _ c.in-Ok.ensures.added refl)
 
 pub returns-in_ok-validated_bytes-in-Ok : goal.returns-in_ok-validated_bytes-in-Ok
 returns-in_ok-validated_bytes-in-Ok g c =
     let o = c.in_ok-validated_bytes-in-Ok.field-0 in
-    one (IsOneTold c.args.profile c.args.file.now (Ok o)) _ _ _ c.in-Ok.ensures (
+    one (IsOneTold c.args.profile c.args.file.now (Ok o)) _ _ _ c.in-Ok.ensures.added (
       _,
       refl,
       refl,
@@ -24,4 +24,4 @@ returns-in_ok-validated_bytes-in-Ok g c =
 
 pub returns-in-Err : goal.returns-in-Err
 returns-in-Err g c =
-    one (IsOneTold c.args.profile c.args.file.now c.outcome.result) _ _ _ c.in-Err.ensures (told_fault c.args.profile _ refl c.in-Err.fault c.outcome.result c.outcome.ensures)
+    one (IsOneTold c.args.profile c.args.file.now c.outcome.result) _ _ _ c.in-Err.ensures.added (told_fault c.args.profile _ refl c.in-Err.fault c.in-Err.ensures.word c.outcome.result c.outcome.ensures)
