@@ -1,8 +1,8 @@
 -- Which files were opened, one behind the other.
-use Rattle.std.proofs.Common.{◌≡◌, ◌<◌, ◌≤◌, ℕ, zero, suc, List, [], ◌∷◌, ◌++◌, map, take, length, Some, None, Result, Ok, Err, Bor, inl, inr, refl, sym, ap, ◌∙◌, arith}
+use Rattle.std.proofs.Common.{◌≡◌, ℕ, zero, suc, List, [], ◌∷◌, ◌++◌, map, take, length, Some, Result, Ok, Err, Bor, inl, refl, sym, ap, ◌∙◌, arith}
 use Rattle.std.specs.Prelude.{slice_get, option_map}
 use Rattle.std.proofs.lemmas.List.{length_push, length-map, map-append}
-use Rattle.std.proofs.lemmas.Option.{none-some, slice_get_cases}
+use Rattle.std.proofs.lemmas.Option.{none-some}
 use Rattle.std.specs.declared.io.Error.{Error}
 use Rattle.toml_delivery.specs.Counts.{Counted}
 use Rattle.tomled.specs.Opening.{AreUnopened, GaveFiles, IsCreated, Opening, OpensFront, unfailed}
@@ -21,18 +21,6 @@ word_at [] n p h = absurd (none-some p h)
 word_at (q ∷ paths) zero p h = ap (option_map (λ (w : Bor (List ℕ)). w.now)) h
 word_at (q ∷ paths) (suc n) p h = word_at paths n p h
 
--- there are no more
-none_behind : {A : Type 0} (xs : List A) (n : ℕ) → slice_get xs n ≡ None → length xs ≤ n
-none_behind xs n none = elim (slice_get_cases xs n).1 [
-  | inl h ↦ absurd (none-some h.0 (sym none ∙ h.2))
-  | inr h ↦ h.0
-]
-
-pub too_few : (paths : List (Bor (List ℕ))) (n count : ℕ) → slice_get paths n ≡ None → n < count → length (words_of paths) < count
-too_few paths n count none low =
-    let words : length (words_of paths) ≡ length paths = length-map paths (λ (w : Bor (List ℕ)). w.now) in
-    omega (arith, words, none_behind paths n none, low)
-
 module _ {F : Type 0} where
   abbrev gave_ok : F → Result F Error
   gave_ok d = Ok d
@@ -47,9 +35,6 @@ module _ {F : Type 0} where
       let b : length files ≡ length h.devices = ap length h.are ∙ length-map h.devices (unfailed {F = F}) in
       let c = length-map openings (λ (o : Opening F). o.gave) in
       omega (arith, a, b, c)
-
-  pub gave_front : (paths : List (List ℕ)) (files : List (Counted F)) (openings : List (Opening F)) → GaveFiles paths files openings → OpensFront paths openings
-  gave_front paths files openings h = h.order ∙ ap (λ n. take n paths) (sym (same_count paths files openings h))
 
   -- one more
   next_order : (paths : List (List ℕ)) (files : List (Counted F)) (openings : List (Opening F)) → GaveFiles paths files openings → (x : Opening F) → slice_get paths (length files) ≡ Some x.path
@@ -86,9 +71,3 @@ module _ {F : Type 0} where
     order = ap (λ l. openings ++ l) is.1;
   })
   stopped_opening paths count files openings h path there NoMemory last is = absurd is
-
-  -- there is no path for the next
-  pub lacks_path : (paths : List (List ℕ)) (count : ℕ) → length paths < count → (fault : FileFault) (files : List (Counted F)) (openings : List (Opening F)) → GaveFiles paths files openings
-      → AreUnopened paths count fault openings
-  lacks_path paths count few (Failed word e) files openings h = inr (record { more = few; opened = gave_front paths files openings h })
-  lacks_path paths count few NoMemory files openings h = gave_front paths files openings h

@@ -8,7 +8,7 @@ use Rattle.tomled.specs.Opening.{AreOpened, GaveFiles, IsCreated, OpensFront, un
 use Rattle.tomled.specs.Validating.{words_of}
 use Rattle.tomled.specs.declared.reading.FileFault.TheVariants.{NoMemory}
 use Rattle.tomled.proofs.Asking.{more, nothing}
-use Rattle.tomled.proofs.Opened.{lacks_path, none_opened, one_opened, stopped_front, stopped_opening, too_few, word_at}
+use Rattle.tomled.proofs.Opened.{none_opened, one_opened, stopped_front, stopped_opening, word_at}
 use Rattle.tomled.proofs.opening.outputs.Goals as goal
 
 pub loop-index-init : goal.loop-index-init
