@@ -1,4 +1,4 @@
-# The deepest texts, under a stack of 256 KiB. The last part of ../program.sh, since that limit stays.
+# The deepest texts, under a stack of 288 KiB. The last part of ../program.sh, since that limit stays.
 deep() {
   local count
   for count in $(seq "$1"); do printf '%s' "$2"; done
@@ -55,7 +55,7 @@ deepest_at() {
   run 1 - 'refused 30*' insert "$text.toml" "$place.z" 1 "$@"
   run 0 'a*' - remove "$text.toml" "$place" "$@"
 }
-ulimit -s 256
+ulimit -s 288
 for text in arrays tables key; do
   deepest "$text"
   deepest "$text" --profile 2
