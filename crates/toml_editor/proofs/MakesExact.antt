@@ -1,10 +1,16 @@
 -- The making of edits, one after the other, and the texts for which the working tree then stands.
-use Rattle.std.proofs.Common.{◌≡◌, ◌⊎◌, ◌+◌, ◌<◌, ◌≤◌, inl, inr, ℕ, Bool, List, [], ◌∷◌, ◌++◌, take, true, false, true≢false, None, Some, refl, sym, subst, subst₂, ◌∙◌, arith}
+use Rattle.std.proofs.Common.{◌≡◌, ◌⊎◌, ◌+◌, ◌<◌, ◌≤◌, inl, inr, ℕ, Bool, List, [], ◌∷◌, ◌++◌, take, true, false, true≢false, None, Some, refl, sym, ap, ap₂, subst, subst₂, ◌∙◌, arith}
 use Rattle.std.proofs.lemmas.Bool.{cases_lt}
 use Rattle.std.proofs.lemmas.Option.{same_Some}
 use Rattle.std.proofs.Math.Path.{fun_ext}
 use Rattle.std.specs.Prelude.{slice_get}
+use Rattle.std.specs.List.{list_any}
+use Rattle.toml_tree.proofs.Proved.{one_tree}
+use Rattle.toml_tree.specs.Profiles.{SpellsIn}
+use Rattle.toml_tree.specs.Spells.{Spells}
+use Rattle.toml_tree.specs.Tree.{Doc, Line}
 use Rattle.toml_tree.specs.declared.profile.Profile.{Profile}
+use Rattle.toml_names.specs.declared.model.address.Step.{Step}
 use Rattle.toml_names.specs.declared.model.address.Step.TheVariants.{Index, Name}
 use Rattle.toml_names.specs.model.Addresses.{Address, element}
 use Rattle.toml_names.specs.model.Data.{Kinds}
@@ -19,13 +25,16 @@ use Rattle.toml_working.specs.declared.working.Tree.{Tree}
 use Rattle.toml_editor.specs.CertifiedLists.{ArePlain}
 use Rattle.toml_editor.specs.Edited.{MayBeSpread, TakesLastElement}
 use Rattle.toml_working.specs.InValues.{Places}
-use Rattle.toml_editor.specs.ElementTexts.{PutsValue}
-use Rattle.toml_editor.specs.Exact.{Follows, IsAt, IsNotPlain, IsNotPlainAt, IsOnePlace, IsSpreadOn, MakesAll, MakesOne, OfPlain, OfNoPlaceAt, PassesAll, PassesAt, PassesOne, PutsLone, PutsOne, Stops, WritesEdit}
+use Rattle.toml_editor.specs.HeldTexts.{ChangesValue, IsInLineValue, IsPutThere}
+use Rattle.toml_editor.specs.Exact.{Follows, HoldsLast, HoldsOne, IsAt, IsOnePlace, IsSpreadOn, LacksPlaceAt, LacksPlaceOn, MakesAll, MakesOne, OfPlain, OfNoPlaceAt, PassesAll, PassesAt, PassesOne, Stops, WritesEdit}
 use Rattle.toml_working.specs.Putting.{manner}
 use Rattle.toml_editor.specs.Making.{TellsOne}
-use Rattle.toml_editor.specs.PlainTexts.{IsPlainOn}
+use Rattle.toml_editor.specs.PlainTexts.{HasHolderFor, HasOnePlace, IsPlainOn}
 use Rattle.toml_text.specs.Source.{text_of}
-use Rattle.toml_working.specs.Standing.{Read, Standing, standing}
+use Rattle.toml_layout.specs.declared.texts.Texts.{Texts}
+use Rattle.toml_working.proofs.Proved.{held_inside, parent_held}
+use Rattle.toml_working.specs.HeldLines.{has_holder_at}
+use Rattle.toml_working.specs.Standing.{Read, Standing, holds, standing}
 use Rattle.toml_working.specs.Stands.{Stands}
 use Rattle.toml_editor.specs.Steps.{AreWritten}
 use Rattle.toml_working.specs.Written.{IsWritten}
@@ -59,41 +68,51 @@ makes_one profile read (insert p value) old new done writes text kinds now at no
 makes_one profile read (rename p to) old new done writes text kinds now at none is_after plain =
     rename_follows profile read old new p to text kinds now at none is_after (writes at.whole)
 makes_one profile read (remove p) old new done writes text kinds now at none is_after plain =
-    remove_follows profile read old new p text kinds now at none is_after (plain at.good.tree at.good.spelled) (writes at.whole)
+    remove_follows profile read old new p text kinds now at none is_after (plain at.good.tree at.good.spelled) (writes at.whole).0
 makes_one profile read (new_section p) old new done writes text kinds now at none is_after plain = absurd (plain at.good.tree at.good.spelled)
 makes_one profile read (new_element p) old new done writes text kinds now at none is_after plain = absurd (plain at.good.tree at.good.spelled)
 
--- an element that is put in
-pub puts_one : (profile : Profile) (read : Read) (near : Kinds) (c : Change) (old new : Tree) (done : Bool) → WritesEdit profile read c old new done
-    → (done ≡ true) ⊎ IsOnePlace c near → PutsOne profile read c old new
-puts_one profile read near c old new done writes either text kinds now at is_after q i given is apart there =
-    by (subst (λ e. WritesEdit profile read e old new done) is writes) (subst (λ e. IsAfter profile e kinds now) is is_after)
-    (elim either [
-      | inl made ↦ made
-      | inr one ↦ absurd (subst (λ e. IsOnePlace e near) is one q i refl)
-    ])
-  where
-    by : WritesEdit profile read (insert (element q i) given) old new done → IsAfter profile (insert (element q i) given) kinds now → done ≡ true
-        → (ts : List Standing) × Stands (text_of old.texts.source) read new.slots.items ts
-        × PutsValue old.texts.layout profile (element q i) given (standing at.good.tree.lines) ts
-    by writes_it after made =
-        let (steps, rest, spelled, inserts, inside) = writes_it at.whole in
-        let value = after.1.value in
-        let lines = at.good.tree.lines in
-        let (opened, outlined, holds_it) = inside value.within value.tree value.is_value in
-        let (ts, stands, held) = holds_it q (Index i) refl apart (standing lines) at.stands (rules_order lines at.good.good.0) there made in (
-          ts,
-          stands,
-          record {
-            steps = steps;
-            spelled = spelled;
-            tree = value.tree;
-            is_value = value.is_value;
-            new = opened;
-            outlined = outlined;
-            put = held;
-          },
-        )
+-- one that changes an array or an inline table in the value of a line
+put_there : (q : Address) (last : Step) (lines : List Line) → IsPutThere lines q last → list_any (holds q) (standing lines) ≡ true
+put_there q (Index i) lines there = there
+put_there q (Name n) lines held = parent_held q (Name n) (standing lines) held
+
+put_is_made : (near : Kinds) (p : Address) (value : List ℕ) (lines : List Line) (done : Bool) → (done ≡ true) ⊎ IsOnePlace (insert p value) near
+    → done ≡ list_any (has_holder_at p) (standing lines) → (q : Address) (last : Step) → p ≡ q ++ last ∷ [] → IsPutThere lines q last → done ≡ true
+put_is_made near p value lines done (inl made) told q last is there = made
+put_is_made near p value lines done (inr one) told q (Index i) is there = absurd (one q i is)
+put_is_made near p value lines done (inr one) told q (Name n) is there = told ∙ ap (λ a. list_any (has_holder_at a) (standing lines)) is ∙ there
+
+pub holds_one : (profile : Profile) (read : Read) (near : Kinds) (c : Change) (old new : Tree) (done : Bool) → WritesEdit profile read c old new done
+    → (done ≡ true) ⊎ IsOnePlace c near → HoldsOne profile read c old new
+holds_one profile read near (insert p value) old new done writes either text kinds now at is_after (q, last, is, not_root, there) =
+    let (steps, rest, spelled, inserts, inside) = writes at.whole in
+    let given = is_after.1.value in
+    let lines = at.good.tree.lines in
+    let (opened, outlined, holds_it) = inside given.within given.tree given.is_value in
+    let held = holds_it q last is not_root (standing lines) at.stands (rules_order lines at.good.good.0) (put_there q last lines there) in
+    let (ts, stands, changed) = held.made (put_is_made near p value lines done either held.tells q last is there) in (
+      ts,
+      stands,
+      record {
+        steps = steps;
+        spelled = spelled;
+        tree = given.tree;
+        is_value = given.is_value;
+        new = opened;
+        outlined = outlined;
+        put = changed;
+      },
+    )
+holds_one profile read near (remove p) old new done writes either text kinds now at is_after there =
+    let lines = at.good.tree.lines in
+    let (not_root, inside) = held_inside p (standing lines) there in
+    let held = (writes at.whole).1 not_root (standing lines) at.stands (rules_order lines at.good.good.0) inside in
+    held.made (held.tells ∙ there)
+holds_one profile read near (set p value) old new done writes either text kinds now at is_after there = absurd there
+holds_one profile read near (rename p to) old new done writes either text kinds now at is_after there = absurd there
+holds_one profile read near (new_section p) old new done writes either text kinds now at is_after there = absurd there
+holds_one profile read near (new_element p) old new done writes either text kinds now at is_after there = absurd there
 
 -- ---- edits that are not made
 
@@ -102,27 +121,65 @@ no_element [] i name is = cc
 no_element (s ∷ []) i name is = cc
 no_element (s ∷ t ∷ q) i name is = cc
 
--- one that is not made, and whose place may be spread, is not plain
-pub not_spread : (profile : Profile) (read : Read) (places : Places) (i : ℕ) (seen : Kinds) (c : Change) (old new : Tree) (done : Bool)
-    → WritesEdit profile read c old new done → done ≡ false → MayBeSpread places i c seen → IsNotPlain profile read c old
-not_spread profile read places i seen (set p value) old new done writes is may text kinds now at none is_after plain =
-    true≢false (sym (set_made profile read p value old new done writes text kinds now at none is_after plain).0 ∙ is)
-not_spread profile read places i seen (insert p value) old new done writes is (q, j, at_index) text kinds now at none is_after plain =
-    let (name, at_name) = plain at.good.tree at.good.spelled in no_element q j name (sym at_index ∙ at_name)
-not_spread profile read places i seen (rename p to) old new done writes is may text kinds now at none is_after plain = may
-not_spread profile read places i seen (remove p) old new done writes is may text kinds now at none is_after plain = may
-not_spread profile read places i seen (new_section p) old new done writes is may text kinds now at none is_after plain = plain at.good.tree at.good.spelled
-not_spread profile read places i seen (new_element p) old new done writes is may text kinds now at none is_after plain = plain at.good.tree at.good.spelled
+-- what holds what is put in, or taken out, is found
+put_is_found : (profile : Profile) (read : Read) (p : Address) (value : List ℕ) (old new : Tree) (done : Bool) → WritesEdit profile read (insert p value) old new done
+    → (text : List ℕ) (kinds now : Kinds) → (at : IsAt profile read old text kinds) → IsAfter profile (insert p value) kinds now
+    → HasHolderFor at.good.tree.lines (insert p value) → done ≡ true
+put_is_found profile read p value old new done writes text kinds now at is_after (q, last, is, not_root, held) =
+    let (steps, rest, spelled, inserts, inside) = writes at.whole in
+    let given = is_after.1.value in
+    let lines = at.good.tree.lines in
+    let (opened, outlined, holds_it) = inside given.within given.tree given.is_value in
+    let there = parent_held q last (standing lines) (subst (λ a. list_any (has_holder_at a) (standing lines) ≡ true) is held) in
+    (holds_it q last is not_root (standing lines) at.stands (rules_order lines at.good.good.0) there).tells ∙ held
 
--- nor is one that takes a last element
-pub not_last : (profile : Profile) (read : Read) (seen : Kinds) (c : Change) (old : Tree) → TakesLastElement c seen → IsNotPlain profile read c old
-not_last profile read seen (remove p) old (q, at_index, some, one) text kinds now at none is_after plain =
-    let plain_here = plain at.good.tree at.good.spelled in no_element q 0 plain_here.0 (sym at_index ∙ plain_here.1)
-not_last profile read seen (set p value) old takes text kinds now at none is_after plain = takes
-not_last profile read seen (insert p value) old takes text kinds now at none is_after plain = takes
-not_last profile read seen (rename p to) old takes text kinds now at none is_after plain = takes
-not_last profile read seen (new_section p) old takes text kinds now at none is_after plain = takes
-not_last profile read seen (new_element p) old takes text kinds now at none is_after plain = takes
+taken_is_found : (profile : Profile) (read : Read) (p : Address) (old new : Tree) (done : Bool) → WritesEdit profile read (remove p) old new done
+    → (text : List ℕ) (kinds : Kinds) → (at : IsAt profile read old text kinds) → HasHolderFor at.good.tree.lines (remove p) → done ≡ true
+taken_is_found profile read p old new done writes text kinds at held =
+    let lines = at.good.tree.lines in
+    let (not_root, inside) = held_inside p (standing lines) held in
+    ((writes at.whole).1 not_root (standing lines) at.stands (rules_order lines at.good.good.0) inside).tells ∙ held
+
+-- one that is not made, and whose place may be spread, has no one place
+pub not_spread : (profile : Profile) (read : Read) (places : Places) (i : ℕ) (seen : Kinds) (c : Change) (old new : Tree) (done : Bool)
+    → WritesEdit profile read c old new done → done ≡ false → MayBeSpread places i c seen → LacksPlaceOn profile read c old
+not_spread profile read places i seen (set p value) old new done writes is may text kinds now at none is_after one =
+    true≢false (sym (set_made profile read p value old new done writes text kinds now at none is_after plain).0 ∙ is)
+  where
+    plain : IsPlainOn profile text (set p value)
+    plain d spelled = elim (one d spelled) [
+      | inl h ↦ h
+      | inr h ↦ absurd h
+    ]
+not_spread profile read places i seen (insert p value) old new done writes is (q, j, at_index) text kinds now at none is_after one =
+    elim (one at.good.tree at.good.spelled) [
+      | inl h ↦ no_element q j h.0 (sym at_index ∙ h.1)
+      | inr h ↦ true≢false (sym (put_is_found profile read p value old new done writes text kinds now at is_after h) ∙ is)
+    ]
+not_spread profile read places i seen (rename p to) old new done writes is may text kinds now at none is_after one = may
+not_spread profile read places i seen (remove p) old new done writes is may text kinds now at none is_after one = may
+not_spread profile read places i seen (new_section p) old new done writes is may text kinds now at none is_after one = elim (one at.good.tree at.good.spelled) [
+  | inl h ↦ h
+  | inr h ↦ h
+]
+not_spread profile read places i seen (new_element p) old new done writes is may text kinds now at none is_after one = elim (one at.good.tree at.good.spelled) [
+  | inl h ↦ h
+  | inr h ↦ h
+]
+
+-- nor has one that takes a last element
+pub not_last : (profile : Profile) (read : Read) (seen : Kinds) (c : Change) (old new : Tree) (done : Bool) → WritesEdit profile read c old new done
+    → done ≡ false → TakesLastElement c seen → LacksPlaceOn profile read c old
+not_last profile read seen (remove p) old new done writes is (q, at_index, some, only) text kinds now at none is_after one =
+    elim (one at.good.tree at.good.spelled) [
+      | inl h ↦ no_element q 0 h.0 (sym at_index ∙ h.1.0)
+      | inr h ↦ true≢false (sym (taken_is_found profile read p old new done writes text kinds at h) ∙ is)
+    ]
+not_last profile read seen (set p value) old new done writes is takes text kinds now at none is_after one = takes
+not_last profile read seen (insert p value) old new done writes is takes text kinds now at none is_after one = takes
+not_last profile read seen (rename p to) old new done writes is takes text kinds now at none is_after one = takes
+not_last profile read seen (new_section p) old new done writes is takes text kinds now at none is_after one = takes
+not_last profile read seen (new_element p) old new done writes is takes text kinds now at none is_after one = takes
 
 -- one that is made, or whose place is not spread, sets nothing that is spread
 pub passes_one : (profile : Profile) (read : Read) (near : Kinds) (c : Change) (old new : Tree) (done : Bool) → WritesEdit profile read c old new done
@@ -146,23 +203,21 @@ no_edit : {A : Type 0} (xs : List A) (x : A) → ¬ (xs ++ x ∷ [] ≡ [])
 no_edit [] x e = cc
 no_edit (y ∷ xs) x e = cc
 
-lone_first : {A : Type 0} (xs : List A) (x y : A) → xs ++ x ∷ [] ≡ y ∷ [] → (xs ≡ []) × (x ≡ y)
-lone_first [] x y e = (refl, cc)
-lone_first (z ∷ xs) x y e = let rest : xs ++ x ∷ [] ≡ [] = cc in absurd (no_edit xs x rest)
+same_last : {A : Type 0} (xs ys : List A) (x y : A) → xs ++ x ∷ [] ≡ ys ++ y ∷ [] → (xs ≡ ys) × (x ≡ y)
+same_last [] [] x y e = (refl, cc)
+same_last [] (b ∷ []) x y e = cc
+same_last [] (b ∷ c ∷ ys) x y e = cc
+same_last (a ∷ []) [] x y e = cc
+same_last (a ∷ b ∷ xs) [] x y e = cc
+same_last (a ∷ xs) (b ∷ ys) x y e =
+    let rest : xs ++ x ∷ [] ≡ ys ++ y ∷ [] = cc in
+    let first : a ≡ b = cc in
+    let (fronts, lasts) = same_last xs ys x y rest in
+    (ap₂ (λ u v. u ∷ v) first fronts, lasts)
 
 -- no edit is made yet
-pub none_put : (profile : Profile) (read : Read) (tree : Tree) → PutsLone profile read [] tree tree
-none_put profile read tree c is = absurd (no_edit [] c (sym is))
-
--- one more is
-pub lone_put : (profile : Profile) (read : Read) (cs : List Change) (c : Change) (old mid new : Tree) → (cs ≡ [] → mid ≡ old) → PutsOne profile read c mid new
-    → PutsLone profile read (cs ++ c ∷ []) old new
-lone_put profile read cs c old mid new first puts d is =
-    let (none, same) = lone_first cs c d is in
-    subst (λ t. PutsOne profile read d t new) (first none) (subst (λ e. PutsOne profile read e mid new) same puts)
-
-pub not_first : {A : Type 0} (cs : List Change) (c : Change) (old new : A) → cs ++ c ∷ [] ≡ [] → new ≡ old
-not_first cs c old new none = absurd (no_edit cs c none)
+pub none_held : (profile : Profile) (read : Read) (tree : Tree) → HoldsLast profile read [] tree tree
+none_held profile read tree front c is = absurd (no_edit front c (sym is))
 
 written_more : (profile : Profile) (cs : List Change) (c : Change) (manner : Manner) (before mid after : List ℕ) → AreWritten profile cs manner before mid
     → IsWritten profile c manner mid after → AreWritten profile (cs ++ c ∷ []) manner before after
@@ -171,7 +226,7 @@ written_more profile (d ∷ cs) c manner before mid after (between, first, rest)
     (between, first, written_more profile cs c manner between mid after rest written)
 
 -- the last of them, on the data to which those before it lead
-lead_parted : (profile : Profile) (cs : List Change) (c : Change) (old now : Kinds) → Lead profile (cs ++ c ∷ []) old now
+pub lead_parted : (profile : Profile) (cs : List Change) (c : Change) (old now : Kinds) → Lead profile (cs ++ c ∷ []) old now
     → (mid : Kinds) × Lead profile cs old mid × IsFault profile c mid None × IsAfter profile c mid now
 lead_parted profile [] c old now (none, mid, is_after, same) = (old, (λ a. refl), none, subst (IsAfter profile c old) (fun_ext same) is_after)
 lead_parted profile (d ∷ cs) c old now (none, mid, is_after, lead) =
@@ -211,6 +266,24 @@ more_made profile read cs c old tree new all makes text kinds now at lead plain 
       source = record { texts = one.source.texts ∙ here.source.texts; mannered = one.source.mannered ∙ here.source.mannered };
     }
 
+-- one more is, inside the value of a line
+pub last_held : (profile : Profile) (read : Read) (cs : List Change) (c : Change) (old mid new : Tree) → MakesAll profile read cs old mid
+    → HoldsOne profile read c mid new → HoldsLast profile read (cs ++ c ∷ []) old new
+last_held profile read cs c old mid new makes one front d is text kinds now last at lead is_after plain between written e spells there =
+    let (fronts, edits) = same_last cs front c d is in
+    let all = makes text kinds now at (subst (λ es. Lead profile es kinds now) (sym fronts) lead)
+        (subst (λ es. ArePlain profile es (manner old) text) (sym fronts) plain) in
+    let text_is : all.after ≡ between = one_list_written profile cs (manner old) text all.after between all.written
+        (subst (λ es. AreWritten profile es (manner old) text between) (sym fronts) written) in
+    let tree_is : all.at.good.tree ≡ e = one_tree all.at.good.tree e all.after all.at.good.spelled.0 (subst (Spells e) (sym text_is) spells.0) in
+    let (ts, stands, changed) = one all.after now last all.at (subst (λ x. IsAfter profile x now last) (sym edits) is_after)
+        (subst₂ (λ (x : Doc) y. IsInLineValue x.lines y) (sym tree_is) (sym edits) there) in (
+      ts,
+      subst (λ t. Stands t read new.slots.items ts) (ap (λ (s : Texts). text_of s.source) all.source.texts) stands,
+      subst (λ l. ChangesValue l profile d (standing e.lines) ts) (ap (λ (s : Texts). s.layout) all.source.texts)
+          (subst₂ (λ (x : Doc) y. ChangesValue mid.texts.layout profile y (standing x.lines) ts) tree_is edits changed),
+    )
+
 -- ---- what holds of one edit, where those before it are made
 
 -- the tree stands for no text on which it is not so of an edit without a fault
@@ -245,17 +318,17 @@ more_passed profile read cs near part i c old tree so_far lead makes here one k 
 -- the fault with which they end
 pub stops_at : (profile : Profile) (read : Read) (places : Places) (cs : List Change) (near part : Kinds) (i : ℕ) (c : Change) (old tree : Tree)
     (fault : EditorFault) → PassesAll profile read cs near i old → MakesAll profile read (take i cs) old tree → slice_get cs i ≡ Some c
-    → TellsOne profile places i c part fault → OfNoPlaceAt (λ at. IsNotPlain profile read c tree) fault → Stops profile read cs near old fault
+    → TellsOne profile places i c part fault → OfNoPlaceAt (λ at. LacksPlaceOn profile read c tree) fault → Stops profile read cs near old fault
 stops_at profile read places cs near part i c old tree fault so_far makes here tells not = by fault tells not
   where
     passed : (j : ℕ) → j ≡ i → PassesAll profile read cs near j old
     passed j is = subst (λ n. PassesAll profile read cs near n old) (sym is) so_far
 
-    not_at : (j : ℕ) → j ≡ i → IsNotPlain profile read c tree → IsNotPlainAt profile read cs j old
-    not_at j is one = subst (λ n. IsNotPlainAt profile read cs n old) (sym is)
-        (of_plain_made profile read cs i c old tree (λ d text kinds. ¬ IsPlainOn profile text d) makes here one)
+    not_at : (j : ℕ) → j ≡ i → LacksPlaceOn profile read c tree → LacksPlaceAt profile read cs j old
+    not_at j is one = subst (λ n. LacksPlaceAt profile read cs n old) (sym is)
+        (of_plain_made profile read cs i c old tree (λ d text kinds. ¬ HasOnePlace profile text d) makes here one)
 
-    by : (f : EditorFault) → TellsOne profile places i c part f → OfNoPlaceAt (λ at. IsNotPlain profile read c tree) f → Stops profile read cs near old f
+    by : (f : EditorFault) → TellsOne profile places i c part f → OfNoPlaceAt (λ at. LacksPlaceOn profile read c tree) f → Stops profile read cs near old f
     by (faults.Edit j x) h one = record { passed = passed j h.0; spread = tt }
     by (faults.Spread j) h one = record { passed = passed j h.0; spread = not_at j h.0 one }
     by (faults.LastElement j) h one = record { passed = passed j h.0; spread = not_at j h.0 one }

@@ -1,35 +1,34 @@
 -- The text that is written of the working tree, once plain edits are made on it, is the one that they write.
-use Rattle.std.proofs.Common.{◌≡◌, ℕ, true, List, [], ◌∷◌, ◌++◌, refl, sym, ap, ◌∙◌, subst}
-use Rattle.std.specs.List.{list_any}
+use Rattle.std.proofs.Common.{◌≡◌, ℕ, List, [], ◌∷◌, ◌++◌, sym, ap, ◌∙◌, subst}
 use Rattle.toml_text.specs.Forms.{IsNewline}
 use Rattle.toml_text.specs.Source.{text_of}
-use Rattle.toml_tree.specs.Profiles.{IsOfProfile}
+use Rattle.toml_tree.specs.Profiles.{IsOfProfile, SpellsIn}
 use Rattle.toml_tree.specs.Spells.{Spells, joined, lines_parts}
 use Rattle.toml_tree.specs.Tree.{Piece, Doc}
 use Rattle.toml_tree.specs.declared.profile.Profile.{Profile}
 use Rattle.toml_tree.proofs.Proved.{one_tree, text_is_spelled}
 use Rattle.toml_names.specs.mentions.Mentions.{named}
-use Rattle.toml_names.specs.model.Addresses.{Address, element}
 use Rattle.toml_names.specs.model.Data.{IsDataOf, Kinds}
 use Rattle.toml_names.specs.model.Documents.{IsDocumentIn}
 use Rattle.toml_names.specs.reader.Names.{AreGood}
-use Rattle.toml_edits.specs.Edits.{Change, insert}
+use Rattle.toml_edits.specs.Edits.{Change}
 use Rattle.toml_edits.specs.Lists.{Lead}
 use Rattle.toml_layout.specs.declared.texts.Texts.{Texts}
 use Rattle.toml_working.specs.declared.working.Tree.{Tree}
 use Rattle.toml_editor.specs.CertifiedLists.{ArePlain}
-use Rattle.toml_editor.specs.ElementTexts.{PutsValue, WritesElement, standing_text}
-use Rattle.toml_editor.specs.Exact.{FollowAll, IsAt, MakesAll, PutsLone}
+use Rattle.toml_editor.specs.HeldTexts.{ChangesValue, IsInLineValue, WritesHeld, standing_text}
+use Rattle.toml_editor.specs.Exact.{FollowAll, HoldsLast, IsAt, MakesAll}
 use Rattle.toml_layout.specs.declared.layout.Layout.{Layout}
 use Rattle.toml_working.specs.Manners.{Manner}
 use Rattle.toml_working.specs.Putting.{manner}
 use Rattle.toml_editor.specs.PlainTexts.{WritesPlain}
-use Rattle.toml_working.specs.Standing.{Read, Standing, holds, standing}
+use Rattle.toml_working.specs.Standing.{Read, Standing, standing}
 use Rattle.toml_working.specs.Stands.{Stands}
 use Rattle.toml_working.specs.Starting.{NoneIsGone}
 use Rattle.toml_editor.specs.Steps.{AreWritten}
 use Rattle.toml_working.specs.Writing.{WritesOut}
 use Rattle.toml_working.specs.Written.{manner_of}
+use Rattle.toml_editor.proofs.MakesExact.{lead_parted}
 use Rattle.toml_editor.proofs.WrittenOut.{lines_are_written}
 use Rattle.toml_editor.proofs.written.Elsewhere.{style_is_newline}
 use Rattle.toml_editor.proofs.written.Steps.{plain_steps}
@@ -73,18 +72,26 @@ module _ (profile : Profile) (read : Read) (d : Doc) (before : List ℕ) (tree :
         lines_are_written before d.mark.text read new.slots.items last.lines out writes there
         ∙ ap (λ (m : Piece). m.text ++ joined (lines_parts last.lines)) mark ∙ text_is_spelled last all.after all.at.good.spelled.0
 
-    -- where the one edit puts in an element, it is the text of lines into which that was put
-    pub element_written : PutsLone profile read cs tree new → WritesOut before d.mark.text new.slots.items out → WritesElement layout profile before cs out
-    element_written puts writes = (d, spelled, by)
+    -- where the last edit is one inside the value of a line, and those before it are plain, it is the text of what that makes of the lines
+    pub held_written : HoldsLast profile read cs tree new → WritesOut before d.mark.text new.slots.items out → WritesHeld layout profile before cs out
+    held_written holds writes = (d, spelled, by)
       where
-        by : (q : Address) (i : ℕ) (text : List ℕ) → cs ≡ insert (element q i) text ∷ [] → ¬ (q ≡ []) → list_any (holds q) (standing d.lines) ≡ true
-            → (ts : List Standing) × PutsValue layout profile (element q i) text (standing d.lines) ts × (out ≡ d.mark.text ++ standing_text ts)
-        by q i text is apart there =
-            let lone = subst (λ es. Lead profile es old now) is lead in
-            let (ts, stand, put) = puts (insert (element q i) text) is before old lone.1 (at old facts) lone.2 q i text refl apart there in (
+        by : (front : List Change) (c : Change) → cs ≡ front ++ c ∷ [] → ArePlain profile front (manner_of layout d.lines) before
+            → (between : List ℕ) → AreWritten profile front (manner_of layout d.lines) before between
+            → (e : Doc) → SpellsIn profile e between → IsInLineValue e.lines c
+            → (ts : List Standing) × ChangesValue layout profile c (standing e.lines) ts × (out ≡ e.mark.text ++ standing_text ts)
+        by front c is plain between written e spells there =
+            let first = at old facts in
+            let (mid, led, none, is_after) = lead_parted profile front c old now (subst (λ es. Lead profile es old now) is lead) in
+            let as_tree = subst (λ m. AreWritten profile front m before between) (sym mannered) written in
+            let (ts, stand, changed) = holds front c is before old mid now first led is_after
+                (subst (λ m. ArePlain profile front m before) (sym mannered) plain) between as_tree e spells there in
+            let steps = plain_steps profile front (manner tree) before between old mid first.newline first.good led as_tree in
+            let tree_is : steps.0.tree ≡ e = one_tree steps.0.tree e between steps.0.spelled.0 spells.0 in
+            let mark : d.mark ≡ e.mark = sym steps.1 ∙ ap (λ (x : Doc). x.mark) tree_is in (
               ts,
-              subst (λ l. PutsValue l profile (element q i) text (standing d.lines) ts) (ap (λ (m : Manner). m.layout) mannered) put,
-              writes read ts (subst (λ t. Stands t read new.slots.items ts) texts stand),
+              subst (λ l. ChangesValue l profile c (standing e.lines) ts) (ap (λ (m : Manner). m.layout) mannered) changed,
+              writes read ts (subst (λ t. Stands t read new.slots.items ts) texts stand) ∙ ap (λ (m : Piece). m.text ++ standing_text ts) mark,
             )
 
     pub plain_written : MakesAll profile read cs tree new → WritesOut before d.mark.text new.slots.items out → WritesPlain layout profile before cs out

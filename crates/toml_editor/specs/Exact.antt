@@ -7,8 +7,8 @@ use Rattle.toml_text.specs.Forms.{IsNewline}
 use Rattle.toml_text.specs.Limit.{IsText}
 use Rattle.toml_text.specs.Source.{text_of}
 use Rattle.toml_scalar.specs.Spelling.{spelled}
-use Rattle.toml_tree.specs.Profiles.{IsValueIn}
-use Rattle.toml_tree.specs.Tree.{Value}
+use Rattle.toml_tree.specs.Profiles.{IsValueIn, SpellsIn}
+use Rattle.toml_tree.specs.Tree.{Doc, Value}
 use Rattle.toml_tree.specs.declared.profile.Profile.{Profile}
 use Rattle.toml_names.specs.mentions.Mentions.{a_table, an_array}
 use Rattle.toml_names.specs.declared.model.address.Step.{Step}
@@ -23,12 +23,12 @@ use Rattle.toml_editor.specs.declared.fault.EditorFault.TheVariants.{Edit, LastE
 use Rattle.toml_working.specs.declared.working.Tree.{Tree}
 use Rattle.toml_working.specs.Becoming.{TreeRenames}
 use Rattle.toml_editor.specs.CertifiedLists.{ArePlain}
-use Rattle.toml_editor.specs.ElementTexts.{PutsValue}
+use Rattle.toml_editor.specs.HeldTexts.{ChangesValue, IsInLineValue}
 use Rattle.toml_layout.specs.declared.tree.Value.{Value as OpenValue}
 use Rattle.toml_layout.specs.Holding.{PutsHeld}
 use Rattle.toml_layout.specs.OpenOutlines.{leaf_text, value as open_outline}
-use Rattle.toml_working.specs.HeldLines.{HoldsLines}
-use Rattle.toml_editor.specs.PlainTexts.{IsPlainOn, IsSpreadSet}
+use Rattle.toml_working.specs.HeldLines.{HoldsLines, TakesFromValue}
+use Rattle.toml_editor.specs.PlainTexts.{HasOnePlace, IsPlainOn, IsSpreadSet}
 use Rattle.toml_working.specs.Putting.{TreeInserts, manner}
 use Rattle.toml_working.specs.RemovingIn.{RemovesLines}
 use Rattle.toml_editor.specs.SpelledEdits.{AreSteps}
@@ -100,20 +100,20 @@ pub record WritesRename (read : Read) (p : Address) (to : List ℕ) (old new : T
 
 -- What an edit makes of the working tree, where no element is gone: a `set` puts the value in, if one stands there, and tells whether;
 -- an `insert` of a name at the root puts its line in, a `remove` there takes out the line of the value, a `rename` gives lines the new
--- name.
+-- name. Where an array or an inline table in the value of a line holds it, an `insert` and a `remove` change that.
 abbrev pub WritesEdit : Profile → Read → Change → Tree → Tree → Bool → Type 0
 WritesEdit profile read (set p text) old new done = NoneIsGone old.elements → KeepsRest old new × WritesSet profile read p text old new done
 WritesEdit profile read (insert p text) old new done = NoneIsGone old.elements
     → (steps : List (String Global)) × KeepsRest old new × AreSteps p steps × WritesInsert profile read p text steps old new
     × WritesInside profile read p text steps old new done
-WritesEdit profile read (remove p) old new done = NoneIsGone old.elements → RemovesLines p read old new
+WritesEdit profile read (remove p) old new done = NoneIsGone old.elements → RemovesLines p read old new × TakesFromValue p read old new done
 WritesEdit profile read (rename p to) old new done = NoneIsGone old.elements → WritesRename read p to old new
 WritesEdit profile read _ old new done = Unit {0}
 
--- the tree stands for no text on which the edit is plain and has no fault
-abbrev pub IsNotPlain : Profile → Read → Change → Tree → Type 0
-IsNotPlain profile read c tree = (text : List ℕ) (kinds now : Kinds) → IsAt profile read tree text kinds
-    → IsFault profile c kinds None → IsAfter profile c kinds now → ¬ IsPlainOn profile text c
+-- the tree stands for no text that has one place for the edit, where that has no fault
+abbrev pub LacksPlaceOn : Profile → Read → Change → Tree → Type 0
+LacksPlaceOn profile read c tree = (text : List ℕ) (kinds now : Kinds) → IsAt profile read tree text kinds
+    → IsFault profile c kinds None → IsAfter profile c kinds now → ¬ HasOnePlace profile text c
 
 -- it sets what is a table or an array
 abbrev pub SetsMany : Change → Kinds → Type 0
@@ -147,16 +147,20 @@ PassesAt profile read cs near tree k = (part : Kinds) × Lead profile (take k cs
 abbrev pub PassesAll : Profile → Read → List Change → Kinds → ℕ → Tree → Type 0
 PassesAll profile read cs near n tree = (k : ℕ) → k < n → PassesAt profile read cs near tree k
 
--- of an `insert` of an element into the value of a line: the tree then stands for lines in one value of which it was put in
-abbrev pub PutsOne : Profile → Read → Change → Tree → Tree → Type 0
-PutsOne profile read c old new = (text : List ℕ) (kinds now : Kinds) → (at : IsAt profile read old text kinds) → IsAfter profile c kinds now
-    → (q : Address) (i : ℕ) (given : List ℕ) → c ≡ insert (element q i) given → ¬ (q ≡ []) → list_any (holds q) (standing at.good.tree.lines) ≡ true
+-- of an edit that changes an array or an inline table in the value of a line: the tree then stands for what it makes of the lines
+abbrev pub HoldsOne : Profile → Read → Change → Tree → Tree → Type 0
+HoldsOne profile read c old new = (text : List ℕ) (kinds now : Kinds) → (at : IsAt profile read old text kinds) → IsAfter profile c kinds now
+    → IsInLineValue at.good.tree.lines c
     → (ts : List Standing) × Stands (text_of old.texts.source) read new.slots.items ts
-    × PutsValue old.texts.layout profile (element q i) given (standing at.good.tree.lines) ts
+    × ChangesValue old.texts.layout profile c (standing at.good.tree.lines) ts
 
--- the same of the one edit of a list
-abbrev pub PutsLone : Profile → Read → List Change → Tree → Tree → Type 0
-PutsLone profile read cs old new = (c : Change) → cs ≡ c ∷ [] → PutsOne profile read c old new
+-- the same of the last edit of a list, where those before it are plain
+abbrev pub HoldsLast : Profile → Read → List Change → Tree → Tree → Type 0
+HoldsLast profile read cs old new = (front : List Change) (c : Change) → cs ≡ front ++ c ∷ [] → (text : List ℕ) (kinds mid now : Kinds)
+    → IsAt profile read old text kinds → Lead profile front kinds mid → IsAfter profile c mid now → ArePlain profile front (manner old) text
+    → (between : List ℕ) → AreWritten profile front (manner old) text between → (e : Doc) → SpellsIn profile e between → IsInLineValue e.lines c
+    → (ts : List Standing) × Stands (text_of old.texts.source) read new.slots.items ts
+    × ChangesValue old.texts.layout profile c (standing e.lines) ts
 
 -- the place of an edit is one: it sets no table and no array, and puts in no element
 abbrev pub IsOnePlace : Change → Kinds → Type 0
@@ -167,18 +171,18 @@ IsOnePlace _ kinds = Unit {0}
 -- Of an edit that is made: what it makes where it is plain, and that it sets nothing that is spread;
 pub record DoneOne (profile : Profile) (read : Read) (near : Kinds) (c : Change) (old new : Tree) : Type 0 where
   pub makes : MakesOne profile read c old new
-  pub puts : PutsOne profile read c old new
+  pub holds : HoldsOne profile read c old new
   pub passes : PassesOne profile read near c old
 
 -- of edits that are made one after the other.
 pub record DoneAll (profile : Profile) (read : Read) (near : Kinds) (cs : List Change) (old new : Tree) : Type 0 where
   pub makes : MakesAll profile read cs old new
-  pub puts : PutsLone profile read cs old new
+  pub holds : HoldsLast profile read cs old new
   pub passes : PassesAll profile read cs near (length cs) old
 
--- the edit with this number, where those before it are plain, is not
-abbrev pub IsNotPlainAt : Profile → Read → List Change → ℕ → Tree → Type 0
-IsNotPlainAt profile read cs j tree = OfPlain profile read cs tree j (λ c text kinds. ¬ IsPlainOn profile text c)
+-- the edit with this number, where those before it are plain, has no one place in the text that they write
+abbrev pub LacksPlaceAt : Profile → Read → List Change → ℕ → Tree → Type 0
+LacksPlaceAt profile read cs j tree = OfPlain profile read cs tree j (λ c text kinds. ¬ HasOnePlace profile text c)
 
 -- this holds of the number of the edit that has the fault, if it is one of an edit
 abbrev pub OfNumber : (ℕ → Type 0) → EditorFault → Type 0
@@ -193,8 +197,8 @@ OfNoPlaceAt P (Spread i) = P i
 OfNoPlaceAt P (LastElement i) = P i
 OfNoPlaceAt P _ = Unit {0}
 
--- no edit before the one with the fault sets what is spread, and that one is not plain, if it is told to be spread or to take a last
+-- no edit before the one with the fault sets what is spread, and that one has no one place, if it is told to be spread or to take a last
 -- element
 pub record Stops (profile : Profile) (read : Read) (cs : List Change) (near : Kinds) (tree : Tree) (fault : EditorFault) : Type 0 where
   pub passed : OfNumber (λ n. PassesAll profile read cs near n tree) fault
-  pub spread : OfNoPlaceAt (λ j. IsNotPlainAt profile read cs j tree) fault
+  pub spread : OfNoPlaceAt (λ j. LacksPlaceAt profile read cs j tree) fault

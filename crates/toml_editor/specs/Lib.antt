@@ -25,6 +25,6 @@ pub mod CertifiedLists
 pub mod StandingLaws
 pub mod PlainTexts
 pub mod PlainAnswers
-pub mod ElementTexts
+pub mod HeldTexts
 pub mod Exact
 pub mod Made

@@ -1,16 +1,19 @@
 -- The text that is handed out of plain edits in a layout: the one that they write, byte for byte.
-use Rattle.std.specs.Prelude.{◌≡◌, ◌<◌, ℕ, List, take, Some, None, slice_get}
+use Rattle.std.specs.Prelude.{◌≡◌, ◌⊎◌, ◌<◌, ℕ, List, [], ◌∷◌, ◌++◌, take, Some, None, slice_get}
 use Rattle.toml_tree.specs.Profiles.{SpellsIn}
-use Rattle.toml_tree.specs.Tree.{Doc}
+use Rattle.toml_tree.specs.Tree.{Doc, Line}
 use Rattle.toml_tree.specs.declared.profile.Profile.{Profile}
 use Rattle.toml_names.specs.mentions.Mentions.{named}
+use Rattle.toml_names.specs.declared.model.address.Step.{Step}
+use Rattle.toml_names.specs.model.Addresses.{Address}
 use Rattle.toml_names.specs.model.Data.{IsDataOf, Kinds}
 use Rattle.toml_checker.specs.Documents.{OfTree}
 use Rattle.toml_edits.specs.After.{IsAfter}
-use Rattle.toml_edits.specs.Edits.{Change, set}
+use Rattle.toml_edits.specs.Edits.{Change, insert, remove, set}
 use Rattle.toml_edits.specs.Faults.{IsFault}
 use Rattle.toml_edits.specs.Lists.{Lead}
 use Rattle.toml_editor.specs.CertifiedLists.{ArePlain}
+use Rattle.toml_editor.specs.HeldTexts.{HasHolderAt}
 use Rattle.toml_editor.specs.Steps.{AreWritten, IsPlain}
 use Rattle.toml_layout.specs.declared.layout.Layout.{Layout}
 use Rattle.toml_working.specs.Written.{HasValue, manner_of}
@@ -47,6 +50,16 @@ abbrev pub NoSpreadSet : Layout → Profile → List ℕ → List Change → ℕ
 NoSpreadSet layout profile before cs n =
     OfTree before (λ d. (k : ℕ) → k < n → AfterPlain layout profile before cs d k (λ c text. ¬ IsSpreadSet profile text c))
 
--- the edit with this number, where those before it are plain, is not
-abbrev pub IsNoPlainEdit : Layout → Profile → List ℕ → List Change → ℕ → Type 0
-IsNoPlainEdit layout profile before cs j = OfTree before (λ d. AfterPlain layout profile before cs d j (λ c text. ¬ IsPlainOn profile text c))
+-- an array or an inline table in the value of a line holds what the edit puts in or takes out
+abbrev pub HasHolderFor : List Line → Change → Type 0
+HasHolderFor lines (insert p value) = (q : Address) × (last : Step) × (p ≡ q ++ last ∷ []) × (¬ (q ≡ [])) × HasHolderAt lines p
+HasHolderFor lines (remove p) = HasHolderAt lines p
+HasHolderFor lines _ = ⊥
+
+-- the text has one place for the edit: it is plain on its lines, or such an edit
+abbrev pub HasOnePlace : Profile → List ℕ → Change → Type 0
+HasOnePlace profile text c = (d : Doc) → SpellsIn profile d text → IsPlain d.lines c ⊎ HasHolderFor d.lines c
+
+-- the edit with this number, where those before it are plain, has no one place in the text that they write
+abbrev pub LacksPlace : Layout → Profile → List ℕ → List Change → ℕ → Type 0
+LacksPlace layout profile before cs j = OfTree before (λ d. AfterPlain layout profile before cs d j (λ c text. ¬ HasOnePlace profile text c))

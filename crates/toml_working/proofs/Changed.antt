@@ -20,11 +20,12 @@ use Rattle.toml_working.specs.declared.working.Position.{Position}
 use Rattle.toml_layout.specs.declared.layout.Layout.{Layout}
 use Rattle.toml_layout.specs.ChangingIn.{ChangesIn}
 use Rattle.toml_layout.specs.SettingIn.{SetsIn}
-use Rattle.toml_layout.specs.Holding.{HolderChange, ChangesHolder, HoldsBy, PutsHeld, TakesHeld}
-use Rattle.toml_working.specs.Changing.{ChangesBody, ChangesOpen, RenamesOpen, SetsOpen, SetsThere, HoldsStanding, ChangesAs, ChangesStanding, ChangesLine, ChangesSlot, ChangesSlots}
+use Rattle.toml_layout.specs.Holding.{HolderChange, ChangesHolder, HoldsIn, PutsHeld, TakesHeld}
+use Rattle.toml_working.specs.Changing.{ChangesBody, ChangesOpen, RenamesOpen, SetsOpen, SetsThere, HoldsOpen, HoldsStanding, ChangesAs, ChangesStanding, ChangesLine, ChangesSlot, ChangesSlots}
+use Rattle.toml_working.specs.HeldLines.{expr_has_holder}
 use Rattle.toml_working.specs.OpeningLines.{OpensBody, IsOpened}
 use Rattle.toml_layout.specs.OpenOutlines.{line, value}
-use Rattle.toml_layout.specs.Outlines.{AssignOutline, ValueOutline, LineOutline, Pair}
+use Rattle.toml_layout.specs.Outlines.{AssignOutline, ExprOutline, ValueOutline, LineOutline, Pair}
 use Rattle.toml_working.specs.RenameStanding.{rename_line_outline, rename_outline_of}
 use Rattle.toml_working.specs.Seeing.{steps_to}
 use Rattle.toml_working.specs.Standing.{Standing, Read, IsApart, leads_to, expr_has, outline_has, outline_of, body_outline, line_standing, set_line_outline, set_outline_of, slot_standing, slots_standing}
@@ -101,12 +102,22 @@ holder_below makes p (Some n) (Some a) old now h held =
       made = held.made;
     }
 
+-- whether it is found, too
+told_below : (p : Address) (base : Option ℕ) (own : Option Address) (e : ExprOutline) → leads_to p base own ≡ true
+    → expr_has_holder e (drop (steps_to own) p) ≡ (leads_to p base own && expr_has_holder e (drop (steps_to own) p))
+told_below p base own e h = ap (λ b. b && expr_has_holder e (drop (steps_to own) p)) (sym h)
+
 holds_below : (makes : HolderChange) (p : Address) (base : Option ℕ) (own : Option Address) (old now old_open now_open : LineOutline) (done : Bool) → old ≡ old_open → now ≡ now_open
-    → HoldsBy SetsOpen (drop (steps_to own) p) makes old_open now_open done
+    → HoldsOpen (drop (steps_to own) p) makes old_open now_open done
     → HoldsStanding p makes (record { address = own; base = base; outline = old }) (record { address = own; base = base; outline = now }) done
-holds_below makes p base own old now old_open now_open done was is holder h made =
-    let at_old = subst (λ l. ChangesHolder SetsOpen makes (drop (steps_to own) p) l now_open) (sym was) (holder made) in
-    holder_below makes p base own old now h (subst (λ m. ChangesHolder SetsOpen makes (drop (steps_to own) p) old m) (sym is) at_old)
+holds_below makes p base own old now old_open now_open done was is holder =
+    let at_old = subst (λ l. HoldsOpen (drop (steps_to own) p) makes l now_open done) (sym was) holder in
+    let here = subst (λ m. HoldsOpen (drop (steps_to own) p) makes old m done) (sym is) at_old in
+    record {
+      made = λ h made. holder_below makes p base own old now h (here.made made);
+      stays = λ not. ap (λ l. record { address = own; base = base; outline = l }) (here.stays not);
+      tells = λ apart h. here.tells apart ∙ told_below p base own old.expr h;
+    }
 
 changes_as : (layout : Layout) (p : Address) (change : Inside) (base : Option ℕ) (own : Option Address) (old now old_open now_open : LineOutline) (done : Bool) → old ≡ old_open → now ≡ now_open
     → ChangesOpen layout (drop (steps_to own) p) change old_open now_open done
@@ -191,9 +202,17 @@ module _ (ws : List ℕ) (a : AssignOutline) (tail : List ℕ) (comment : Option
     made = held.made;
   }
 
+  pair_holds_by : (makes : HolderChange) (steps : Address) (v w : ValueOutline) (done : Bool) → HoldsIn steps makes v w done
+      → HoldsOpen steps makes (with_pair v) (with_pair w) done
+  pair_holds_by makes steps v w done holds = record {
+    made = λ made. pair_held makes steps v w (holds.made made);
+    stays = λ not. ap with_pair (holds.stays not);
+    tells = holds.tells;
+  }
+
   pub open_changed : (layout : Layout) (steps : Address) (change : Inside) (v w : ValueOutline) (done : Bool) → ChangesIn layout steps change v w done
       → ChangesOpen layout steps change (with_pair v) (with_pair w) done
   open_changed layout steps (changes.Set new) v w done sets = λ apart at. let made = sets apart at in (ap with_pair made.0, made.1)
-  open_changed layout steps (changes.Insert spelled new) v w done holds = λ made. pair_held (PutsHeld layout spelled.now new) steps v w (holds.made made)
+  open_changed layout steps (changes.Insert spelled new) v w done holds = pair_holds_by (PutsHeld layout spelled.now new) steps v w done holds
   open_changed layout steps (changes.Rename to) v w done renames = λ apart at. ap with_pair (renames apart at)
-  open_changed layout steps changes.Remove v w done holds = λ made. pair_held (TakesHeld layout) steps v w (holds.made made)
+  open_changed layout steps changes.Remove v w done holds = pair_holds_by (TakesHeld layout) steps v w done holds

@@ -1,2 +1,3 @@
 -- The proofs of the laws of src/laws.rt, for the crates above.
+pub use Rattle.toml_working.proofs.HeldLines.{held_inside, parent_held}
 pub use Rattle.toml_working.proofs.OneLine.{put_lines_are_one, taken_lines_are_one}

@@ -1,5 +1,5 @@
 -- What an edit changes inside the value of a line, by outlines, and by what then stands on the lines.
-use Rattle.std.specs.Prelude.{◌≡◌, true, Bool, List, ◌∷◌, ◌++◌, ℕ, Some}
+use Rattle.std.specs.Prelude.{◌≡◌, true, false, Bool, List, ◌∷◌, ◌++◌, ℕ, Some}
 use Rattle.std.specs.Global.{Box}
 use Rattle.toml_names.specs.model.Addresses.{Address}
 use Rattle.toml_text.specs.Source.{text_of}
@@ -19,6 +19,7 @@ use Rattle.toml_working.specs.declared.working.Position.{Position}
 use Rattle.toml_working.specs.declared.working.Tree.{Tree}
 use Rattle.toml_layout.specs.OpenOutlines.{line}
 use Rattle.toml_layout.specs.Outlines.{ValueOutline, LineOutline}
+use Rattle.toml_working.specs.HeldLines.{expr_has_holder, has_holder_at}
 use Rattle.toml_working.specs.RenameStanding.{rename_inside, rename_line_outline}
 use Rattle.toml_working.specs.Seeing.{found, line_at}
 use Rattle.toml_working.specs.Standing.{Standing, Read, IsApart, expr_has, has, holds, set_line_outline, set_standing, slots_standing}
@@ -33,8 +34,13 @@ SetsOpen steps new old now done =
 abbrev pub RenamesOpen : Address → List ℕ → LineOutline → LineOutline → Type 0
 RenamesOpen steps text old now = IsApart old.expr → (at : Address) → now ≡ rename_line_outline (at ++ steps) text at old
 
+pub record HoldsOpen (steps : Address) (makes : HolderChange) (old now : LineOutline) (done : Bool) : Type 0 where
+  pub made : HoldsBy SetsOpen steps makes old now done
+  pub stays : done ≡ false → now ≡ old
+  pub tells : IsApart old.expr → done ≡ expr_has_holder old.expr steps
+
 abbrev pub ChangesOpen : Layout → Address → Inside → LineOutline → LineOutline → Bool → Type 0
-ChangesOpen layout steps = Changes layout (SetsOpen steps) (RenamesOpen steps) (HoldsBy SetsOpen steps)
+ChangesOpen layout steps = Changes layout (SetsOpen steps) (RenamesOpen steps) (HoldsOpen steps)
 
 -- what is opened is changed, and no other
 abbrev pub ChangesBody : Layout → Address → Inside → Body → Body → Bool → Type 0
@@ -52,8 +58,10 @@ RenamesStanding p text old now = IsApart old.outline.expr → holds p old ≡ tr
 abbrev pub SetsThere : Address → ValueOutline → Standing → Standing → Bool → Type 0
 SetsThere p new old now done = (holds p old ≡ true) × SetsStanding p new old now done
 
-abbrev pub HoldsStanding : Address → HolderChange → Standing → Standing → Bool → Type 0
-HoldsStanding p makes old now done = holds p old ≡ true → HoldsBy SetsThere p makes old now done
+pub record HoldsStanding (p : Address) (makes : HolderChange) (old now : Standing) (done : Bool) : Type 0 where
+  pub made : holds p old ≡ true → HoldsBy SetsThere p makes old now done
+  pub stays : done ≡ false → now ≡ old
+  pub tells : IsApart old.outline.expr → holds p old ≡ true → done ≡ has_holder_at p old
 
 abbrev pub ChangesAs : Layout → Address → Inside → Standing → Standing → Bool → Type 0
 ChangesAs layout p = Changes layout (SetsStanding p) (RenamesStanding p) (HoldsStanding p)

@@ -1,5 +1,5 @@
 -- Something is put into the value of a line, or taken out of one, by what then stands on the lines.
-use Rattle.std.specs.Prelude.{◌≡◌, ◌&&◌, ◌∷◌, ◌++◌, ℕ, Bool, true, List, [], map, length, string_bytes}
+use Rattle.std.specs.Prelude.{◌≡◌, ◌&&◌, ◌∷◌, ◌++◌, ℕ, Bool, true, false, List, [], drop, map, length, string_bytes}
 use Rattle.std.specs.Bool.{nat_lt}
 use Rattle.std.specs.List.{list_any}
 use Rattle.std.specs.declared.alloc.Global.{Global}
@@ -9,9 +9,10 @@ use Rattle.toml_names.specs.model.Addresses.{Address}
 use Rattle.toml_text.specs.Source.{text_of}
 use Rattle.toml_layout.specs.declared.layout.Layout.{Layout}
 use Rattle.toml_layout.specs.declared.tree.Value.{Value}
+use Rattle.toml_layout.specs.Holders.{has_holder}
 use Rattle.toml_layout.specs.Holding.{HolderChange, ChangesHolder, PutsHeld, TakesHeld}
 use Rattle.toml_layout.specs.OpenOutlines.{value}
-use Rattle.toml_layout.specs.Outlines.{ValueOutline}
+use Rattle.toml_layout.specs.Outlines.{ExprOutline, Header, Nothing, Pair, ValueOutline}
 use Rattle.toml_working.specs.declared.lines.Slot.{Slot}
 use Rattle.toml_working.specs.declared.working.Tree.{Tree}
 use Rattle.toml_working.specs.Seeing.{steps_to}
@@ -22,10 +23,22 @@ use Rattle.toml_working.specs.Stands.{Stands}
 abbrev pub SetsEach : Address → ValueOutline → List Standing → List Standing → Bool → Type 0
 SetsEach p new old now done = (now ≡ map (set_standing p new) old) × (done ≡ list_any (has p) old)
 
--- the tree stands for lines; now it stands for others, in the value of one of which an array or an inline table has changed so
-abbrev pub HoldsLines : Address → HolderChange → List ℕ → Read → List Slot → List Slot → List Standing → Bool → Type 0
-HoldsLines p makes text read old now ss done =
-    done ≡ true → (ts : List Standing) × Stands text read now ts × ChangesHolder SetsEach makes p ss ts
+-- whether an array or an inline table in the value of a line holds what the steps below the line name, or would hold it
+abbrev pub expr_has_holder : ExprOutline → Address → Bool
+expr_has_holder Nothing steps = false
+expr_has_holder (Pair assign held) steps = has_holder held steps
+expr_has_holder (Header opening before first rest after closing) steps = false
+
+-- the same of what stands at an address
+abbrev pub has_holder_at : Address → Standing → Bool
+has_holder_at p s = holds p s && expr_has_holder s.outline.expr (drop (steps_to s.address) p)
+
+-- The tree stands for lines. Where an array or an inline table in the value of one holds what stands at the address, or would hold it, the
+-- tree now stands for others, in which that one has changed so; else for the same.
+pub record HoldsLines (p : Address) (makes : HolderChange) (text : List ℕ) (read : Read) (old now : List Slot) (ss : List Standing) (done : Bool) : Type 0 where
+  pub made : done ≡ true → (ts : List Standing) × Stands text read now ts × ChangesHolder SetsEach makes p ss ts
+  pub stays : done ≡ false → Stands text read now ss
+  pub tells : done ≡ list_any (has_holder_at p) ss
 
 -- whether the value of the line holds what stands at the address, and does not stand there itself
 abbrev pub holds_inside : Address → Standing → Bool
@@ -55,3 +68,11 @@ abbrev pub PutLinesAreOne : Type 0
 PutLinesAreOne = (layout : Layout) (spelled twin : List (String Global)) (p : Address) (put same : Value) (ss now new : List Standing) → AreOrdered ss
     → map string_bytes spelled ≡ map string_bytes twin → value put ≡ value same → ChangesHolder SetsEach (PutsHeld layout spelled put) p ss now
     → ChangesHolder SetsEach (PutsHeld layout twin same) p ss new → now ≡ new
+
+-- Laws: where an array or an inline table in the value of a line holds what stands at an address, the parent is that value or stands in it,
+-- and what stands at the address lies in it.
+abbrev pub ParentIsHeld : Type 0
+ParentIsHeld = (q : Address) (last : Step) (ss : List Standing) → list_any (has_holder_at (q ++ last ∷ [])) ss ≡ true → list_any (holds q) ss ≡ true
+
+abbrev pub HeldIsInside : Type 0
+HeldIsInside = (p : Address) (ss : List Standing) → list_any (has_holder_at p) ss ≡ true → (¬ (p ≡ [])) × (list_any (holds_inside p) ss ≡ true)

@@ -17,7 +17,7 @@ returns-in-Found-clause-edited c =
         outer = found.outermost;
         plain = c.requires.made.plain;
         passed = c.requires.made.passed;
-        element = c.requires.made.element;
+        held = c.requires.made.held;
       };
       pieces = c.requires.made.pieces;
     }

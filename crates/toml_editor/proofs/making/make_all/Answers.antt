@@ -1,13 +1,13 @@
-use Rattle.std.proofs.Common.{◌∙◌, arith, map, refl, subst, sym, take}
+use Rattle.std.proofs.Common.{arith, map, refl, subst, sym, take}
 use Rattle.std.proofs.lemmas.List.{length-map, take_all}
 use Rattle.toml_edits.specs.Drafts.{drafted}
 use Rattle.toml_edits.specs.Edits.{change}
 use Rattle.toml_edits.specs.Lists.{Lead}
-use Rattle.toml_editor.specs.Exact.{MakesAll, PutsLone}
+use Rattle.toml_editor.specs.Exact.{HoldsLast, MakesAll}
 use Rattle.toml_editor.specs.Made.{places_in}
 use Rattle.toml_working.specs.Starting.{read_of}
 use Rattle.toml_editor.proofs.MadeEdits.{any_of_one, get_map, led_on, take_map, taken_on}
-use Rattle.toml_editor.proofs.MakesExact.{lone_put, more_made, more_passed, none_made, none_passed, none_put, not_first, stops_at}
+use Rattle.toml_editor.proofs.MakesExact.{last_held, more_made, more_passed, none_held, none_made, none_passed, stops_at}
 use Rattle.toml_editor.proofs.SpelledOne.{as_many, one_spelled}
 use Rattle.toml_editor.proofs.making.make_all.Goals as goal
 
@@ -27,8 +27,7 @@ loop-index-init c =
       (λ a. refl),
       none_made profile read tree,
       none_passed profile read (map change c.args.edits.now) (drafted c.args.draft.now) tree,
-      none_put profile read tree,
-      λ none. refl,
+      none_held profile read tree,
     )
 
 pub loop-index-preserved : goal.loop-index-preserved
@@ -49,9 +48,8 @@ loop-index-preserved c =
       more_passed profile read (map change edits) near part here.index (change edit) old here.tree here.invariant.2
           (subst (λ ds. Lead profile ds near part) taken here.invariant.0) (subst (λ ds. MakesAll profile read ds old here.tree) taken here.invariant.1)
           (get_map edits here.index edit (omega arith) c.index-edits-index.is) c.in_default.ensures.made.done.passes,
-      subst (λ ds. PutsLone profile read ds old c.make.new.tree) (sym (taken_on edits here.index edit (omega arith) c.index-edits-index.is))
-          (lone_put profile read made (change edit) old here.tree c.make.new.tree here.invariant.4 c.in_default.ensures.made.done.puts),
-      λ none. not_first made (change edit) old c.make.new.tree (sym (taken_on edits here.index edit (omega arith) c.index-edits-index.is) ∙ none),
+      subst (λ ds. HoldsLast profile read ds old c.make.new.tree) (sym (taken_on edits here.index edit (omega arith) c.index-edits-index.is))
+          (last_held profile read made (change edit) old here.tree c.make.new.tree here.invariant.1 c.in_default.ensures.made.done.holds),
     )
 
 pub returns-in-Err-clause-told : goal.returns-in-Err-clause-told
@@ -70,7 +68,7 @@ returns-in-Err-clause-told c =
       told = any_of_one profile places edits here.index edit near part c.in-Err.fault (omega arith) c.index-edits-index.is here.invariant.0 says.told;
       stops = stops_at profile read places (map change edits) near part here.index (change edit) old here.tree c.in-Err.fault here.invariant.2
           (subst (λ ds. MakesAll profile read ds old here.tree) (sym (take_map here.index edits)) here.invariant.1)
-          (get_map edits here.index edit (omega arith) c.index-edits-index.is) says.told says.not_plain;
+          (get_map edits here.index edit (omega arith) c.index-edits-index.is) says.told says.lacks;
     }
 
 pub returns-clause-made : goal.returns-clause-made
@@ -83,7 +81,7 @@ returns-clause-made c =
       lead = subst (λ es. Lead profile (map change es) (drafted c.args.draft.now) (drafted here.draft)) all here.invariant.0;
       done = record {
         makes = subst (λ es. MakesAll profile (read_of c.args.read.before) (map change es) c.args.tree.now here.tree) all here.invariant.1;
-        puts = subst (λ es. PutsLone profile (read_of c.args.read.before) (map change es) c.args.tree.now here.tree) all here.invariant.3;
+        holds = subst (λ es. HoldsLast profile (read_of c.args.read.before) (map change es) c.args.tree.now here.tree) all here.invariant.3;
         passes = λ k low. here.invariant.2 k (omega (arith, low, length-map edits change));
       };
     }

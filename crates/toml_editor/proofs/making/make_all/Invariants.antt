@@ -1,8 +1,8 @@
-use Rattle.std.proofs.Common.{◌≡◌, [], map, take}
+use Rattle.std.proofs.Common.{map, take}
 use Rattle.toml_edits.specs.Drafts.{drafted}
 use Rattle.toml_edits.specs.Edits.{change}
 use Rattle.toml_edits.specs.Lists.{Lead}
-use Rattle.toml_editor.specs.Exact.{MakesAll, PassesAll, PutsLone}
+use Rattle.toml_editor.specs.Exact.{HoldsLast, MakesAll, PassesAll}
 use Rattle.toml_working.specs.Starting.{read_of}
 use Rattle.toml_editor.proofs.making.make_all.Given as goal
 
@@ -11,5 +11,4 @@ invariant-loop-index l =
     Lead l.read.profile (map change (take l.index l.edits)) (drafted l.initial.draft) (drafted l.draft)
     × MakesAll l.read.profile (read_of l.read.before) (map change (take l.index l.edits)) l.initial.tree l.tree
     × PassesAll l.read.profile (read_of l.read.before) (map change l.edits) (drafted l.initial.draft) l.index l.initial.tree
-    × PutsLone l.read.profile (read_of l.read.before) (map change (take l.index l.edits)) l.initial.tree l.tree
-    × (map change (take l.index l.edits) ≡ [] → l.tree ≡ l.initial.tree)
+    × HoldsLast l.read.profile (read_of l.read.before) (map change (take l.index l.edits)) l.initial.tree l.tree

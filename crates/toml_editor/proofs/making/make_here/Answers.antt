@@ -1,7 +1,7 @@
 use Rattle.std.proofs.Common.{inl, inr, refl}
 use Rattle.toml_edits.specs.Drafts.{drafted}
 use Rattle.toml_editor.specs.Made.{places_in}
-use Rattle.toml_editor.proofs.MakesExact.{makes_one, not_last, not_spread, passes_one, puts_one}
+use Rattle.toml_editor.proofs.MakesExact.{holds_one, makes_one, not_last, not_spread, passes_one}
 use Rattle.toml_editor.proofs.Shapes.{made_is, not_made_is}
 use Rattle.toml_editor.proofs.making.make_here.Goals as goal
 
@@ -10,7 +10,7 @@ returns-clause-made c = record {
   applied = c.in_ok-applied.ensures.ok;
   done = record {
     makes = makes_one _ _ _ _ _ c.in_ok-done.done c.in_ok-done.ensures;
-    puts = puts_one _ _ (drafted c.args.draft.now) _ _ _ c.in_ok-done.done c.in_ok-done.ensures
+    holds = holds_one _ _ (drafted c.args.draft.now) _ _ _ c.in_ok-done.done c.in_ok-done.ensures
         (elim (made_is c.in_ok-done.done _ _ c.not_made-is_spread.ensures c.if-is_spread.false) [
           | inl h ↦ inl h
           | inr h ↦ inr (c.in_ok-spread.ensures.no h)
@@ -30,7 +30,7 @@ returns-then-is_spread-clause-told c =
     let may = c.in_ok-spread.ensures.yes both.1 in
     record {
       told = (refl, (c.in_ok-applied.ensures.ok.0, may));
-      not_plain =
+      lacks =
           not_spread _ _ (places_in c.args.read) c.args.index (drafted c.args.draft.now) _ _ _ c.in_ok-done.done c.in_ok-done.ensures both.0 may;
     }
 
@@ -40,5 +40,5 @@ returns-then-is_last-clause-told c =
     let takes = c.is_only_element-only.ensures both.1 in
     record {
       told = (refl, (c.in_ok-applied.ensures.ok.0, takes));
-      not_plain = not_last _ _ (drafted c.args.draft.now) _ _ takes;
+      lacks = not_last _ _ (drafted c.args.draft.now) _ _ _ c.in_ok-done.done c.in_ok-done.ensures both.0 takes;
     }

@@ -1,7 +1,8 @@
 use Rattle.std.proofs.Common.{◌∙◌, subst, subst₂}
-use Rattle.std.proofs.lemmas.Result.{IfOk-weaker, on_ok_weaker}
+use Rattle.std.proofs.lemmas.Result.{IfOk-weaker}
 use Rattle.toml_edits.specs.Edits.{change}
 use Rattle.toml_editor.specs.Exact.{WritesInsert, WritesInside, WritesSet}
+use Rattle.toml_working.specs.HeldLines.{TakesFromValue}
 use Rattle.toml_working.specs.RemovingIn.{RemovesLines}
 use Rattle.toml_editor.specs.SpelledEdits.{IsSpelled}
 use Rattle.toml_working.specs.Starting.{read_of}
@@ -28,8 +29,12 @@ returns-in-Remove c =
     let read = read_of c.args.read.before in
     edit_written c.remove.result c.args.read.profile read c.args.tree.now c.remove.new.self c.in_ok-at.at _ _ c.in-Remove.is
     (λ whole. c.in_ok-at.ensures whole ∙ c.place.ensures)
-    (λ at. on_ok_weaker c.remove.result
-    (λ removes whole. subst (λ a. RemovesLines a read c.args.tree.now c.remove.new.self) (at whole) removes) c.remove.ensures.root)
+    (λ at. IfOk-weaker c.remove.result _ _
+    (λ done made whole. (
+      subst (λ a. RemovesLines a read c.args.tree.now c.remove.new.self) (at whole) made.0,
+      subst (λ a. TakesFromValue a read c.args.tree.now c.remove.new.self done) (at whole) made.1,
+    ))
+    (if_ok_with _ _ c.remove.result c.remove.ensures.root c.remove.ensures.value))
 
 pub returns-in-Insert : goal.returns-in-Insert
 returns-in-Insert c =

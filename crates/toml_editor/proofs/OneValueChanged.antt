@@ -1,0 +1,19 @@
+-- An edit inside the value of a line makes one thing of lines.
+use Rattle.std.proofs.Common.{◌≡◌, ◌∙◌, ap, sym}
+use Rattle.toml_tree.proofs.Proved.{one_value}
+use Rattle.toml_tree.specs.Tree.{Value}
+use Rattle.toml_edits.specs.Edits.{insert, new_element, new_section, remove, rename, set}
+use Rattle.toml_layout.specs.TreeOutlines.{value_outline}
+use Rattle.toml_working.proofs.Proved.{put_lines_are_one, taken_lines_are_one}
+use Rattle.toml_editor.specs.HeldTexts.{OneChangedValue}
+
+pub one_changed_value : OneChangedValue
+one_changed_value layout profile (insert p text) old now new ordered h g =
+    let same : h.tree ≡ g.tree = one_value h.tree g.tree 0 text h.is_value.0 g.is_value.0 in
+    put_lines_are_one layout h.steps g.steps p h.new g.new old now new ordered (h.spelled ∙ sym g.spelled)
+    (h.outlined ∙ ap value_outline same ∙ sym g.outlined) h.put g.put
+one_changed_value layout profile (remove p) old now new ordered h g = taken_lines_are_one layout p old now new ordered h g
+one_changed_value layout profile (set p text) old now new ordered h g = absurd h
+one_changed_value layout profile (rename p to) old now new ordered h g = absurd h
+one_changed_value layout profile (new_section p) old now new ordered h g = absurd h
+one_changed_value layout profile (new_element p) old now new ordered h g = absurd h

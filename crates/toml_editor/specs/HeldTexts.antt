@@ -1,0 +1,74 @@
+-- What is written where the last edit changes an array or an inline table in the value of a line.
+use Rattle.std.specs.Prelude.{◌≡◌, true, ℕ, List, [], ◌∷◌, ◌++◌, map}
+use Rattle.std.specs.List.{list_any}
+use Rattle.std.specs.declared.alloc.Global.{Global}
+use Rattle.std.specs.declared.string.String.{String}
+use Rattle.toml_tree.specs.Profiles.{IsValueIn, SpellsIn}
+use Rattle.toml_tree.specs.Tree.{Doc, Line, Value}
+use Rattle.toml_tree.specs.declared.profile.Profile.{Profile}
+use Rattle.toml_names.specs.declared.model.address.Step.{Step}
+use Rattle.toml_names.specs.declared.model.address.Step.TheVariants.{Index, Name}
+use Rattle.toml_names.specs.model.Addresses.{Address, child}
+use Rattle.toml_edits.specs.Edits.{Change, insert, remove}
+use Rattle.toml_checker.specs.Documents.{OfTree}
+use Rattle.toml_layout.specs.declared.layout.Layout.{Layout}
+use Rattle.toml_layout.specs.declared.tree.Value.{Value as OpenValue}
+use Rattle.toml_layout.specs.Holding.{ChangesHolder, PutsHeld, TakesHeld}
+use Rattle.toml_layout.specs.OpenOutlines.{value}
+use Rattle.toml_layout.specs.Outlines.{lines_outlined}
+use Rattle.toml_layout.specs.TreeOutlines.{value_outline}
+use Rattle.toml_working.specs.HeldLines.{SetsEach, has_holder_at}
+use Rattle.toml_working.specs.Standing.{AreOrdered, Standing, holds, standing}
+use Rattle.toml_working.specs.Written.{manner_of}
+use Rattle.toml_editor.specs.CertifiedLists.{ArePlain}
+use Rattle.toml_editor.specs.SpelledEdits.{AreSteps}
+use Rattle.toml_editor.specs.Steps.{AreWritten}
+
+-- on lines the value of this text was put in at the address, by the rules of the layout, and nothing else has changed
+pub record PutsValue (layout : Layout) (profile : Profile) (p : Address) (text : List ℕ) (old now : List Standing) : Type 0 where
+  pub steps : List (String Global)
+  pub spelled : AreSteps p steps
+  pub tree : Value
+  pub is_value : IsValueIn profile tree text
+  pub new : OpenValue
+  pub outlined : value new ≡ value_outline tree
+  pub put : ChangesHolder SetsEach (PutsHeld layout steps new) p old now
+
+-- what the edit makes of lines: so it puts a value in, or takes out what stands at the address, and nothing else changes
+abbrev pub ChangesValue : Layout → Profile → Change → List Standing → List Standing → Type 0
+ChangesValue layout profile (insert p text) old now = PutsValue layout profile p text old now
+ChangesValue layout profile (remove p) old now = ChangesHolder SetsEach (TakesHeld layout) p old now
+ChangesValue layout profile _ old now = ⊥
+
+-- Law: of lines as the table rules have them an edit makes one thing.
+abbrev pub OneChangedValue : Type 0
+OneChangedValue = (layout : Layout) (profile : Profile) (c : Change) (old now new : List Standing) → AreOrdered old
+    → ChangesValue layout profile c old now → ChangesValue layout profile c old new → now ≡ new
+
+-- an array or an inline table in the value of a line holds what stands at the address, or would hold it
+abbrev pub HasHolderAt : List Line → Address → Type 0
+HasHolderAt lines p = list_any (has_holder_at p) (standing lines) ≡ true
+
+-- so it is of a name to be put in there; and the array for an element is the value of a line, or stands in one
+abbrev pub IsPutThere : List Line → Address → Step → Type 0
+IsPutThere lines q (Name name) = HasHolderAt lines (child q name)
+IsPutThere lines q (Index i) = list_any (holds q) (standing lines) ≡ true
+
+-- the edit puts an element or a pair into an array or an inline table in the value of a line, or takes one out
+abbrev pub IsInLineValue : List Line → Change → Type 0
+IsInLineValue lines (insert p text) = (q : Address) × (last : Step) × (p ≡ q ++ last ∷ []) × (¬ (q ≡ [])) × IsPutThere lines q last
+IsInLineValue lines (remove p) = HasHolderAt lines p
+IsInLineValue lines _ = ⊥
+
+-- the text of what stands on lines
+abbrev pub standing_text : List Standing → List ℕ
+standing_text ss = lines_outlined (map (λ (s : Standing). s.outline) ss)
+
+-- Where the edits before the last one are plain, and the last one is such an edit on the text that they write, the text is the mark and what
+-- the edit makes of the lines.
+abbrev pub WritesHeld : Layout → Profile → List ℕ → List Change → List ℕ → Type 0
+WritesHeld layout profile before cs after = OfTree before (λ d. (front : List Change) (c : Change) → cs ≡ front ++ c ∷ []
+    → ArePlain profile front (manner_of layout d.lines) before
+    → (between : List ℕ) → AreWritten profile front (manner_of layout d.lines) before between
+    → (e : Doc) → SpellsIn profile e between → IsInLineValue e.lines c
+    → (now : List Standing) × ChangesValue layout profile c (standing e.lines) now × (after ≡ e.mark.text ++ standing_text now))
