@@ -2,7 +2,7 @@ pub mod Shapes
 pub mod MadeEdits
 pub mod MakesExact
 pub mod PlainMade
-pub mod OneValueChanged
+pub mod OneChanged
 pub mod PassedSpread
 pub mod Judgements
 pub mod PlainAnswers

@@ -25,7 +25,7 @@ use Rattle.toml_working.specs.declared.working.Tree.{Tree}
 use Rattle.toml_editor.specs.CertifiedLists.{ArePlain}
 use Rattle.toml_editor.specs.Edited.{MayBeSpread, TakesLastElement}
 use Rattle.toml_working.specs.InValues.{Places}
-use Rattle.toml_editor.specs.HeldTexts.{ChangesValue, IsInLineValue, IsPutThere}
+use Rattle.toml_editor.specs.LastTexts.{ChangesLines, IsOnOneLine, IsPutThere}
 use Rattle.toml_editor.specs.Exact.{Follows, HoldsLast, HoldsOne, IsAt, IsOnePlace, IsSpreadOn, LacksPlaceAt, LacksPlaceOn, MakesAll, MakesOne, OfPlain, OfNoPlaceAt, PassesAll, PassesAt, PassesOne, Stops, WritesEdit}
 use Rattle.toml_working.specs.Putting.{manner}
 use Rattle.toml_editor.specs.Making.{TellsOne}
@@ -34,6 +34,7 @@ use Rattle.toml_text.specs.Source.{text_of}
 use Rattle.toml_layout.specs.declared.texts.Texts.{Texts}
 use Rattle.toml_working.proofs.Proved.{held_inside, parent_held}
 use Rattle.toml_working.specs.HeldLines.{has_holder_at}
+use Rattle.toml_working.specs.RemoveStanding.{remove_standing}
 use Rattle.toml_working.specs.Standing.{Read, Standing, holds, standing}
 use Rattle.toml_working.specs.Stands.{Stands}
 use Rattle.toml_editor.specs.Steps.{AreWritten}
@@ -72,7 +73,7 @@ makes_one profile read (remove p) old new done writes text kinds now at none is_
 makes_one profile read (new_section p) old new done writes text kinds now at none is_after plain = absurd (plain at.good.tree at.good.spelled)
 makes_one profile read (new_element p) old new done writes text kinds now at none is_after plain = absurd (plain at.good.tree at.good.spelled)
 
--- one that changes an array or an inline table in the value of a line
+-- one that changes an array or an inline table in the value of a line, or takes out a line
 put_there : (q : Address) (last : Step) (lines : List Line) → IsPutThere lines q last → list_any (holds q) (standing lines) ≡ true
 put_there q (Index i) lines there = there
 put_there q (Name n) lines held = parent_held q (Name n) (standing lines) held
@@ -104,11 +105,16 @@ holds_one profile read near (insert p value) old new done writes either text kin
         put = changed;
       },
     )
-holds_one profile read near (remove p) old new done writes either text kinds now at is_after there =
+holds_one profile read near (remove p) old new done writes either text kinds now at is_after (inl there) =
     let lines = at.good.tree.lines in
     let (not_root, inside) = held_inside p (standing lines) there in
     let held = (writes at.whole).1 not_root (standing lines) at.stands (rules_order lines at.good.good.0) inside in
-    held.made (held.tells ∙ there)
+    let (ts, stands, changed) = held.made (held.tells ∙ there) in
+    (ts, stands, inl (there, changed))
+holds_one profile read near (remove p) old new done writes either text kinds now at is_after (inr there) =
+    let lines = at.good.tree.lines in
+    let (rest, stands) = (writes at.whole).0 (standing lines) at.stands (rules_order lines at.good.good.0) there in
+    (remove_standing p (standing lines), stands, inr (there, refl))
 holds_one profile read near (set p value) old new done writes either text kinds now at is_after there = absurd there
 holds_one profile read near (rename p to) old new done writes either text kinds now at is_after there = absurd there
 holds_one profile read near (new_section p) old new done writes either text kinds now at is_after there = absurd there
@@ -172,7 +178,7 @@ pub not_last : (profile : Profile) (read : Read) (seen : Kinds) (c : Change) (ol
     → done ≡ false → TakesLastElement c seen → LacksPlaceOn profile read c old
 not_last profile read seen (remove p) old new done writes is (q, at_index, some, only) text kinds now at none is_after one =
     elim (one at.good.tree at.good.spelled) [
-      | inl h ↦ no_element q 0 h.0 (sym at_index ∙ h.1.0)
+      | inl h ↦ no_element q 0 h.0 (sym at_index ∙ h.1)
       | inr h ↦ true≢false (sym (taken_is_found profile read p old new done writes text kinds at h) ∙ is)
     ]
 not_last profile read seen (set p value) old new done writes is takes text kinds now at none is_after one = takes
@@ -277,11 +283,11 @@ last_held profile read cs c old mid new makes one front d is text kinds now last
         (subst (λ es. AreWritten profile es (manner old) text between) (sym fronts) written) in
     let tree_is : all.at.good.tree ≡ e = one_tree all.at.good.tree e all.after all.at.good.spelled.0 (subst (Spells e) (sym text_is) spells.0) in
     let (ts, stands, changed) = one all.after now last all.at (subst (λ x. IsAfter profile x now last) (sym edits) is_after)
-        (subst₂ (λ (x : Doc) y. IsInLineValue x.lines y) (sym tree_is) (sym edits) there) in (
+        (subst₂ (λ (x : Doc) y. IsOnOneLine x.lines y) (sym tree_is) (sym edits) there) in (
       ts,
       subst (λ t. Stands t read new.slots.items ts) (ap (λ (s : Texts). text_of s.source) all.source.texts) stands,
-      subst (λ l. ChangesValue l profile d (standing e.lines) ts) (ap (λ (s : Texts). s.layout) all.source.texts)
-          (subst₂ (λ (x : Doc) y. ChangesValue mid.texts.layout profile y (standing x.lines) ts) tree_is edits changed),
+      subst (λ l. ChangesLines l profile d (standing e.lines) ts) (ap (λ (s : Texts). s.layout) all.source.texts)
+          (subst₂ (λ (x : Doc) y. ChangesLines mid.texts.layout profile y (standing x.lines) ts) tree_is edits changed),
     )
 
 -- ---- what holds of one edit, where those before it are made

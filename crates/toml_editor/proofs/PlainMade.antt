@@ -16,7 +16,7 @@ use Rattle.toml_edits.specs.Lists.{Lead}
 use Rattle.toml_layout.specs.declared.texts.Texts.{Texts}
 use Rattle.toml_working.specs.declared.working.Tree.{Tree}
 use Rattle.toml_editor.specs.CertifiedLists.{ArePlain}
-use Rattle.toml_editor.specs.HeldTexts.{ChangesValue, IsInLineValue, WritesHeld, standing_text}
+use Rattle.toml_editor.specs.LastTexts.{ChangesLines, IsOnOneLine, WritesLast, standing_text}
 use Rattle.toml_editor.specs.Exact.{FollowAll, HoldsLast, IsAt, MakesAll}
 use Rattle.toml_layout.specs.declared.layout.Layout.{Layout}
 use Rattle.toml_working.specs.Manners.{Manner}
@@ -73,13 +73,13 @@ module _ (profile : Profile) (read : Read) (d : Doc) (before : List ℕ) (tree :
         ∙ ap (λ (m : Piece). m.text ++ joined (lines_parts last.lines)) mark ∙ text_is_spelled last all.after all.at.good.spelled.0
 
     -- where the last edit is one inside the value of a line, and those before it are plain, it is the text of what that makes of the lines
-    pub held_written : HoldsLast profile read cs tree new → WritesOut before d.mark.text new.slots.items out → WritesHeld layout profile before cs out
+    pub held_written : HoldsLast profile read cs tree new → WritesOut before d.mark.text new.slots.items out → WritesLast layout profile before cs out
     held_written holds writes = (d, spelled, by)
       where
         by : (front : List Change) (c : Change) → cs ≡ front ++ c ∷ [] → ArePlain profile front (manner_of layout d.lines) before
             → (between : List ℕ) → AreWritten profile front (manner_of layout d.lines) before between
-            → (e : Doc) → SpellsIn profile e between → IsInLineValue e.lines c
-            → (ts : List Standing) × ChangesValue layout profile c (standing e.lines) ts × (out ≡ e.mark.text ++ standing_text ts)
+            → (e : Doc) → SpellsIn profile e between → IsOnOneLine e.lines c
+            → (ts : List Standing) × ChangesLines layout profile c (standing e.lines) ts × (out ≡ e.mark.text ++ standing_text ts)
         by front c is plain between written e spells there =
             let first = at old facts in
             let (mid, led, none, is_after) = lead_parted profile front c old now (subst (λ es. Lead profile es old now) is lead) in
@@ -90,7 +90,7 @@ module _ (profile : Profile) (read : Read) (d : Doc) (before : List ℕ) (tree :
             let tree_is : steps.0.tree ≡ e = one_tree steps.0.tree e between steps.0.spelled.0 spells.0 in
             let mark : d.mark ≡ e.mark = sym steps.1 ∙ ap (λ (x : Doc). x.mark) tree_is in (
               ts,
-              subst (λ l. ChangesValue l profile c (standing e.lines) ts) (ap (λ (m : Manner). m.layout) mannered) changed,
+              subst (λ l. ChangesLines l profile c (standing e.lines) ts) (ap (λ (m : Manner). m.layout) mannered) changed,
               writes read ts (subst (λ t. Stands t read new.slots.items ts) texts stand) ∙ ap (λ (m : Piece). m.text ++ standing_text ts) mark,
             )
 

@@ -25,4 +25,4 @@ pub use Rattle.toml_editor.proofs.written.Certify.{partners_certify, outer_partn
 pub use Rattle.toml_editor.proofs.written.OuterPairs.{outer_are_named}
 pub use Rattle.toml_editor.proofs.written.HeadersRenamed.{rename_along_header, rename_along_element}
 pub use Rattle.toml_editor.proofs.PlainAnswers.{plain_is_answered, long_is_answered, first_fault_is_answered, first_spread_is_answered}
-pub use Rattle.toml_editor.proofs.OneValueChanged.{one_changed_value}
+pub use Rattle.toml_editor.proofs.OneChanged.{one_change}

@@ -21,7 +21,7 @@ use Rattle.toml_checker.specs.Documents.{AreDefined, OfTree, OfData}
 use Rattle.toml_checker.specs.Findings.{IsFirstUnmet}
 use Rattle.toml_checker.specs.Outer.{IsOuter}
 use Rattle.toml_checker.specs.Pairs.{IsFirst}
-use Rattle.toml_editor.specs.HeldTexts.{WritesHeld}
+use Rattle.toml_editor.specs.LastTexts.{WritesLast}
 use Rattle.toml_editor.specs.PlainTexts.{IsNoPlainList, LacksPlace, NoSpreadSet, WritesPlain}
 use Rattle.toml_working.specs.InValues.{Places, IsElementInValue, IsRightInValue}
 use Rattle.toml_working.specs.Tidy.{ArePieces}
@@ -43,7 +43,7 @@ pub record IsEditedWith (layout : Layout) (profile : Profile) (before : List ℕ
     pub outer : NamesOuter before cs ps
     pub plain : WritesPlain layout profile before cs after
     pub passed : NoSpreadSet layout profile before cs (length cs)
-    pub held : WritesHeld layout profile before cs after
+    pub held : WritesLast layout profile before cs after
 
 -- in layout `Plain`
 abbrev pub IsEdited : Profile → List ℕ → List Change → List ℕ → List (ℕ × ℕ) → Type 0

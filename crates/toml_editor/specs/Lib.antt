@@ -25,6 +25,6 @@ pub mod CertifiedLists
 pub mod StandingLaws
 pub mod PlainTexts
 pub mod PlainAnswers
-pub mod HeldTexts
+pub mod LastTexts
 pub mod Exact
 pub mod Made

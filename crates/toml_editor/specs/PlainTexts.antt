@@ -13,7 +13,7 @@ use Rattle.toml_edits.specs.Edits.{Change, insert, remove, set}
 use Rattle.toml_edits.specs.Faults.{IsFault}
 use Rattle.toml_edits.specs.Lists.{Lead}
 use Rattle.toml_editor.specs.CertifiedLists.{ArePlain}
-use Rattle.toml_editor.specs.HeldTexts.{HasHolderAt}
+use Rattle.toml_editor.specs.LastTexts.{HasHolderAt}
 use Rattle.toml_editor.specs.Steps.{AreWritten, IsPlain}
 use Rattle.toml_layout.specs.declared.layout.Layout.{Layout}
 use Rattle.toml_working.specs.Written.{HasValue, manner_of}

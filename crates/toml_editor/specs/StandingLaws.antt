@@ -15,7 +15,7 @@ use Rattle.toml_working.specs.Renaming.{rename_lines}
 use Rattle.toml_working.specs.InsertStanding.{AreRooted, insert_standing}
 use Rattle.toml_working.specs.Inserting.{insert_lines}
 use Rattle.toml_working.specs.Manners.{Manner}
-use Rattle.toml_working.specs.RemoveStanding.{is_pair, remove_standing}
+use Rattle.toml_working.specs.RemoveStanding.{is_undotted_pair, remove_standing}
 use Rattle.toml_working.specs.Removing.{remove_lines}
 use Rattle.toml_working.specs.Setting.{set_lines}
 use Rattle.toml_working.specs.Standing.{AreOrdered, standing, set_standing, has}
@@ -58,10 +58,10 @@ abbrev pub InsertStands : Type 0
 InsertStands = (name : List ℕ) (new : Value) (manner : Manner) (lines : List Line) → AreLines lines
     → standing (insert_lines name new manner lines) ≡ insert_standing name (value_outline new) manner (standing lines)
 
--- Laws: the value of a name at the root stands on one of the lines, if a key has it,
+-- Laws: the value of a name at the root stands on one of the lines, if a key has it, and that key is not dotted,
 abbrev pub PairStands : Type 0
 PairStands = (name : List ℕ) (lines : List Line) → HasPair lines (Name name ∷ []) → KeepsRules (named lines)
-    → list_any (is_pair (Name name ∷ [])) (standing lines) ≡ true
+    → list_any (is_undotted_pair (Name name ∷ [])) (standing lines) ≡ true
 
 -- and the lines after a `remove` are what the `remove` makes of the lines.
 abbrev pub RemoveStands : Type 0

@@ -5,7 +5,7 @@ ghost use Rattle.toml_editor.specs.CarriedLists.{ListIsCarried};
 ghost use Rattle.toml_editor.specs.CertifiedLists.{PartnersCertify, OuterAreNamed, OuterPartnersCertify, PlainListIsCertified};
 ghost use Rattle.toml_editor.specs.ChangedUnits.{SetUnits};
 ghost use Rattle.toml_editor.specs.PlainAnswers.{FirstFaultIsAnswered, FirstSpreadIsAnswered, LongIsAnswered, PlainIsAnswered};
-ghost use Rattle.toml_editor.specs.HeldTexts.{OneChangedValue};
+ghost use Rattle.toml_editor.specs.LastTexts.{OneChange};
 ghost use Rattle.toml_editor.specs.InsertLaws.{InsertNames, InsertRules, InsertShort, InsertData, InsertForms, InsertOfProfile, InsertKeepsLines};
 ghost use Rattle.toml_editor.specs.RemoveLaws.{RemoveNames, RemoveGood, RemoveData, RemoveForms, RemoveOfProfile, RemoveKeepsLines};
 ghost use Rattle.toml_editor.specs.RenameLaws.{RenameNames, RenameGood, RenameData, RenameForms, RenameOfProfile, RenameKeepsLine};
@@ -213,8 +213,8 @@ pub fn written_out()
     ensures text { TextIsWritten }
 {}
 
-/// What an edit inside the value of a line makes of lines that are as the table rules have them is one thing in a layout, and so it has
-/// one text.
-pub fn changed_values()
-    ensures { OneChangedValue }
+/// What an edit inside the value of a line, or one that takes out a line, makes of lines that are as the table rules have them is one
+/// thing in a layout, and so it has one text.
+pub fn one_change()
+    ensures { OneChange }
 {}

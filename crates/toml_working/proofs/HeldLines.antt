@@ -118,7 +118,7 @@ or-true : (b : Bool) → (b || true) ≡ true
 or-true true = refl
 or-true false = refl
 
-any_weaker : {A : Type 0} (f g : A → Bool) → ((x : A) → f x ≡ true → g x ≡ true) → (xs : List A) → list_any f xs ≡ true → list_any g xs ≡ true
+pub any_weaker : {A : Type 0} (f g : A → Bool) → ((x : A) → f x ≡ true → g x ≡ true) → (xs : List A) → list_any f xs ≡ true → list_any g xs ≡ true
 any_weaker f g more [] h = h
 any_weaker f g more (x ∷ xs) h = by (any_weaker f g more xs) (f x) refl h
   where
@@ -161,7 +161,7 @@ some_steps (suc n) [] e held = absurd (true≢false (sym held ∙ no_steps_held 
 some_steps zero (s ∷ p) e held = omega arith
 some_steps (suc n) (s ∷ p) e held = let few = some_steps n p e held in omega (arith, few)
 
-steps_left : (p : Address) (s : Standing) → has_holder_at p s ≡ true → (holds p s ≡ true) × (steps_to s.address < length p)
+pub steps_left : (p : Address) (s : Standing) → has_holder_at p s ≡ true → (holds p s ≡ true) × (steps_to s.address < length p)
 steps_left p s h =
     let (leads, held) = and_parts (holds p s) (expr_has_holder s.outline.expr (drop (steps_to s.address) p)) h in
     (leads, some_steps (steps_to s.address) p s.outline.expr held)

@@ -1,7 +1,8 @@
--- The line that a `remove` at the root takes out: no other stands at the address or below it.
-use Rattle.std.proofs.Common.{◌≡◌, ◌∙◌, ℕ, ◌<◌, Bool, true, false, cond, ◌||◌, List, [], ◌∷◌, ◌++◌, length, set, Option, Some, None, refl, ap, ap₂, sym, subst, arith, true≢false, append_assoc}
+-- The line that a `remove` takes out: no other stands at the address or below it.
+use Rattle.std.proofs.Common.{◌≡◌, ◌∙◌, ℕ, ◌+◌, ◌==◌, ◌<◌, ◌≤◌, Bool, true, false, cond, ◌||◌, List, [], ◌∷◌, ◌++◌, length, set, Option, Some, None, refl, ap, ap₂, sym, subst, arith, true≢false, append_assoc}
 use Rattle.std.specs.List.{list_any}
 use Rattle.std.specs.Prelude.{slice_get}
+use Rattle.std.proofs.lemmas.Bool.{and_parts, eqb-true}
 use Rattle.std.proofs.lemmas.List.Folds.{list_any-append}
 use Rattle.toml_names.proofs.Proved.{same_address-decides}
 use Rattle.toml_names.specs.model.Addresses.{Address}
@@ -11,8 +12,8 @@ use Rattle.toml_working.specs.declared.lines.Slot.{Slot}
 use Rattle.toml_working.specs.declared.lines.Sought.TheVariants as kinds
 use Rattle.toml_working.specs.declared.working.Position.{Position}
 use Rattle.toml_working.specs.declared.working.Tree.{Tree}
-use Rattle.toml_working.specs.RemoveStanding.{is_pair, is_value_at, left_standing, remove_standing, without}
-use Rattle.toml_working.specs.RemovingIn.{LeavesSlot, LeavesSlots, RemovesLines}
+use Rattle.toml_working.specs.RemoveStanding.{is_pair, is_undotted_at, is_undotted_pair, is_value_at, left_standing, remove_standing, without}
+use Rattle.toml_working.specs.RemovingIn.{IsUndottedAt, LeavesSlot, LeavesSlots, RemovesLines, base_of, steps_or_none}
 use Rattle.toml_working.specs.Seeing.{HoldsNone, IsSoughtAt, line_at, steps_of, steps_to}
 use Rattle.toml_working.specs.Standing.{Standing, Read, StandAlone, covers, covers_at, holds, is_below, leads_to, lies_below, slot_standing, slots_standing}
 use Rattle.toml_layout.specs.Beginnings.{begins}
@@ -22,6 +23,8 @@ use Rattle.toml_working.proofs.Alone.{item_split, slot_split, split_within}
 use Rattle.toml_working.proofs.AtPlace.{holder_at}
 use Rattle.toml_working.proofs.Each.{each_back, each_front, each_get, each_set, each_weaker}
 use Rattle.toml_working.proofs.Turned.{one_turned}
+use Rattle.toml_working.proofs.HeldLines.{any_weaker, steps_left}
+use Rattle.toml_working.specs.HeldLines.{HeldIsNoLine, has_holder_at}
 use Rattle.toml_working.proofs.Pairwise.{PairsAre, pairs_of_all}
 
 -- the address of a pair's line
@@ -148,6 +151,36 @@ is_placed p read slots at ss found are alone there =
       after = each_weaker (λ t. covers s t ≡ false) (λ t. is_below p t ≡ false) elsewhere (back ++ behind) apart.1;
     }
 
+-- a pair whose key is not dotted is one,
+undotted_pair : (p : Address) (base : Option ℕ) (own : Option Address) → is_undotted_at p base own ≡ true → is_value_at p base own ≡ true
+undotted_pair p None own is = cc
+undotted_pair p (Some n) own is = (and_parts (is_value_at p (Some n) own) (length p == n + 1) is).0
+
+-- and its table has one step less than it
+undotted_base : (p : Address) (base : Option ℕ) (own : Option Address) → is_undotted_at p base own ≡ true → length p ≤ steps_or_none base + 1
+undotted_base p None own is = cc
+undotted_base p (Some n) own is =
+    let same : length p ≡ n + 1 = eqb-true (length p) (n + 1) (and_parts (is_value_at p (Some n) own) (length p == n + 1) is).1 in
+    omega (arith, same)
+
+pair_is_there : (p : Address) (ss : List Standing) → list_any (is_undotted_pair p) ss ≡ true → list_any (is_pair p) ss ≡ true
+pair_is_there p ss = any_weaker (is_undotted_pair p) (is_pair p) (λ s is. undotted_pair p s.base s.address is) ss
+
+-- of lines that stand alone it is the one that is the pair's
+undotted_here : (p : Address) (front : List Standing) (s : Standing) (back : List Standing) → is_pair p s ≡ true → EachIs (λ t. is_below p t ≡ false) front
+    → EachIs (λ t. is_below p t ≡ false) back → list_any (is_undotted_pair p) (front ++ s ∷ back) ≡ true → is_undotted_pair p s ≡ true
+undotted_here p front s back pair ahead after there =
+    sym (list_any-append (is_undotted_pair p) front (s ∷ back)
+    ∙ ap₂ (λ a b. a || (is_undotted_pair p s || b)) (none_there front ahead) (none_there back after) ∙ or_none (is_undotted_pair p s)) ∙ there
+  where
+    not_here : (q : Address) (t : Standing) → is_below q t ≡ false → (b : Bool) → is_undotted_pair q t ≡ b → is_undotted_pair q t ≡ false
+    not_here q t apart true is = absurd (true≢false (sym (pair_below q t (undotted_pair q t.base t.address is)) ∙ apart))
+    not_here q t apart false is = is
+
+    none_there : (ts : List Standing) → EachIs (λ t. is_below p t ≡ false) ts → list_any (is_undotted_pair p) ts ≡ false
+    none_there [] h = refl
+    none_there (t ∷ ts) h = ap₂ (λ a b. a || b) (not_here p t h.0 (is_undotted_pair p t) refl) (none_there ts h.1)
+
 -- what is left of the slot of that line
 placed_goes : (p : Address) (read : Read) (old now : List Slot) (at : Position) (ss : List Standing) (t : Slot) (h : IsPlaced p read old at ss)
     → now ≡ set old at.slot t → slot_standing read t ≡ without (is_below p) (slot_standing read h.slot) → slots_standing read now ≡ remove_standing p ss
@@ -162,11 +195,15 @@ placed_goes p read old now at ss t h put left =
     ∙ ap (remove_standing p) (sym h.all)
 
 pub holder_goes : (p : Address) (read : Read) (old now : Tree) (at : Position) → KeepsRest old now
-    → (length p ≡ 1 → LeavesSlots p read.units at.slot old.slots.items now.slots.items) → IsSoughtAt kinds.Holder p read old.slots.items at → RemovesLines p read old now
-holder_goes p read old now at rest leaves found one ss stands ordered there =
+    → (IsUndottedAt p read old.slots.items at → LeavesSlots p read.units at.slot old.slots.items now.slots.items)
+    → IsSoughtAt kinds.Holder p read old.slots.items at → RemovesLines p read old now
+holder_goes p read old now at rest leaves found ss stands ordered there =
     let text = text_of old.texts.source in
-    let h = is_placed p read old.slots.items at ss found stands.are ordered.alone there in
-    let (t, put, left) = one_turned (LeavesSlot p read.units) at.slot old.slots.items now.slots.items h.slot h.there (leaves one) in
+    let h = is_placed p read old.slots.items at ss found stands.are ordered.alone (pair_is_there p ss there) in
+    let undotted = undotted_here p (h.before ++ h.front) h.line (h.back ++ h.behind) h.pair h.ahead h.after
+    (subst (λ xs. list_any (is_undotted_pair p) xs ≡ true) h.all there) in
+    let low = subst (λ o. length p ≤ base_of o + 1) (sym h.placed) (undotted_base p h.line.base h.line.address undotted) in
+    let (t, put, left) = one_turned (LeavesSlot p read.units) at.slot old.slots.items now.slots.items h.slot h.there (leaves low) in
     let (kept, is) = left text read refl (each_get (SlotKept text read) old.slots.items at.slot h.slot stands.kept h.there) in (
       rest,
       record {
@@ -178,8 +215,8 @@ holder_goes p read old now at rest leaves found one ss stands ordered there =
 -- the line at the place does not hold it in its value
 pub never_inside : (p : Address) (read : Read) (old now : Tree) (at : Position) (steps : ℕ) → steps ≡ steps_of (line_at read old.slots.items at) → steps < length p
     → IsSoughtAt kinds.Holder p read old.slots.items at → RemovesLines p read old now
-never_inside p read old now at steps counts low found one ss stands ordered there =
-    let h = is_placed p read old.slots.items at ss found stands.are ordered.alone there in
+never_inside p read old now at steps counts low found ss stands ordered there =
+    let h = is_placed p read old.slots.items at ss found stands.are ordered.alone (pair_is_there p ss there) in
     let same : steps ≡ length p = counts ∙ ap steps_of h.placed ∙ ap steps_to (pair_address p h.line.base h.line.address h.pair) in
     absurd (omega arith)
 
@@ -197,9 +234,49 @@ any_holds p (s ∷ ss) there none = by (is_pair p s) refl there none (any_holds 
     by true is h k rest = true≢false (ap (λ b. b || list_any (holds p) ss) (sym (pair_holds p s.base s.address is)) ∙ k)
     by false is h k rest = rest h (later (holds p s) k)
 
--- where none does, no such edit is made
+-- at the root no pair stands
+no_pair_at_root : (s : Standing) → is_undotted_pair [] s ≡ true → ⊥
+no_pair_at_root s is = by s.base s.address is
+  where
+    by : (base : Option ℕ) (own : Option Address) → is_undotted_at [] base own ≡ true → ⊥
+    by None own h = cc
+    by (Some n) own h =
+        let same : 0 ≡ n + 1 = eqb-true 0 (n + 1) (and_parts (is_value_at [] (Some n) own) (0 == n + 1) h).1 in
+        absurd (omega (arith, same))
+
+none_at_root : (ss : List Standing) → list_any (is_undotted_pair []) ss ≡ true → ⊥
+none_at_root [] h = true≢false (sym h)
+none_at_root (s ∷ ss) h = by (none_at_root ss) (is_undotted_pair [] s) refl h
+  where
+    by : (list_any (is_undotted_pair []) ss ≡ true → ⊥) → (b : Bool) → is_undotted_pair [] s ≡ b → (b || list_any (is_undotted_pair []) ss) ≡ true → ⊥
+    by behind true is there = no_pair_at_root s is
+    by behind false is there = behind there
+
+-- where no line holds it, no such edit is made
 pub none_goes : (p : Address) (read : Read) (old now : Tree) → HoldsNone p read.units old.slots.items → RemovesLines p read old now
-none_goes p read old now none one ss stands ordered there =
-    let not_root : ¬ (p ≡ []) = λ is. let e : length p ≡ 0 = ap length is in absurd (omega arith) in
+none_goes p read old now none ss stands ordered there =
+    let not_root : ¬ (p ≡ []) = λ is. none_at_root ss (subst (λ q. list_any (is_undotted_pair q) ss ≡ true) is there) in
     let all = none not_root read.lines (subst StandAlone (sym stands.are) ordered.alone) in
-    absurd (any_holds p ss there (subst (λ xs. list_any (holds p) xs ≡ false) stands.are all))
+    absurd (any_holds p ss (pair_is_there p ss there) (subst (λ xs. list_any (holds p) xs ≡ false) stands.are all))
+
+-- ---- what is held in a value
+
+-- one of which the test is true, and those around it
+any_split : {A : Type 0} (test : A → Bool) (xs : List A) → list_any test xs ≡ true
+    → (front : List A) × (x : A) × (back : List A) × (xs ≡ front ++ x ∷ back) × (test x ≡ true)
+any_split test [] there = absurd (true≢false (sym there))
+any_split {A = A} test (x ∷ xs) there = by (any_split test xs) (test x) refl there
+  where
+    by : (list_any test xs ≡ true → (front : List A) × (y : A) × (back : List A) × (xs ≡ front ++ y ∷ back) × (test y ≡ true)) → (b : Bool) → test x ≡ b
+        → (b || list_any test xs) ≡ true → (front : List A) × (y : A) × (back : List A) × (x ∷ xs ≡ front ++ y ∷ back) × (test y ≡ true)
+    by behind true is h = ([], x, xs, refl, is)
+    by behind false is h = let (front, y, back, split, holds_y) = behind h in (x ∷ front, y, back, ap (λ r. x ∷ r) split, holds_y)
+
+pub held_is_no_line : HeldIsNoLine
+held_is_no_line p ss ordered held there =
+    let (front, s, back, split, here) = any_split (has_holder_at p) ss held in
+    let (leads, few) = steps_left p s here in
+    let apart = around front s back (pairs_of_all _ _ (subst StandAlone split ordered.alone)) in
+    let pair = holder_is p front s back leads apart (subst (λ xs. list_any (is_pair p) xs ≡ true) split (pair_is_there p ss there)) in
+    let same : steps_to s.address ≡ length p = ap steps_to (pair_address p s.base s.address pair) in
+    absurd (omega (arith, few, same))

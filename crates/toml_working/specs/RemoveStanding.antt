@@ -1,5 +1,5 @@
 -- `remove` on lines by what finds them: the line whose value stands at the address goes; a last line leaves one of no bytes.
-use Rattle.std.specs.Prelude.{ℕ, Bool, false, List, [], ◌∷◌, ◌++◌, length, ◌==◌, if◌then◌else◌, Option, Some, None}
+use Rattle.std.specs.Prelude.{ℕ, ◌+◌, Bool, false, ◌&&◌, List, [], ◌∷◌, ◌++◌, length, ◌==◌, if◌then◌else◌, Option, Some, None}
 use Rattle.toml_names.specs.model.Addresses.{Address, same_address}
 use Rattle.toml_layout.specs.Outlines.{no_line}
 use Rattle.toml_working.specs.Standing.{Standing}
@@ -28,6 +28,14 @@ is_value_at p (Some n) (Some a) = same_address a p
 
 abbrev pub is_pair : Address → Standing → Bool
 is_pair p s = is_value_at p s.base s.address
+
+-- the same, and the key is not dotted: the address has one step more than that of the table in which the line stands
+abbrev pub is_undotted_at : Address → Option ℕ → Option Address → Bool
+is_undotted_at p None own = false
+is_undotted_at p (Some n) own = is_value_at p (Some n) own && (length p == n + 1)
+
+abbrev pub is_undotted_pair : Address → Standing → Bool
+is_undotted_pair p s = is_undotted_at p s.base s.address
 
 abbrev pub remove_standing : Address → List Standing → List Standing
 remove_standing p = without (is_pair p)

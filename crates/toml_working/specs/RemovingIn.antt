@@ -1,14 +1,17 @@
--- What a `remove` of a line at the root makes of the lines of the working tree.
-use Rattle.std.specs.Prelude.{◌≡◌, true, ℕ, List, [], ◌∷◌, length, map, Option, Some, None}
+-- What a `remove` of a line makes of the lines of the working tree.
+use Rattle.std.specs.Prelude.{◌≡◌, ◌≤◌, ◌+◌, true, ℕ, List, [], ◌∷◌, length, map, Option, Some, None}
 use Rattle.std.specs.List.{list_any}
 use Rattle.toml_names.specs.model.Addresses.{Address}
 use Rattle.toml_text.specs.Source.{text_of}
 use Rattle.toml_tree.specs.Spells.{EachIs}
+use Rattle.toml_tree.specs.Tree as tree
 use Rattle.toml_units.specs.declared.unit.Unit.{Unit as ReadUnit}
 use Rattle.toml_working.specs.declared.lines.Line.{Line}
 use Rattle.toml_working.specs.declared.lines.Slot.{Slot}
+use Rattle.toml_working.specs.declared.working.Position.{Position}
 use Rattle.toml_working.specs.declared.working.Tree.{Tree}
-use Rattle.toml_working.specs.RemoveStanding.{is_pair, left_standing, remove_standing, without, without_one}
+use Rattle.toml_working.specs.RemoveStanding.{is_undotted_pair, left_standing, remove_standing, without, without_one}
+use Rattle.toml_working.specs.Seeing.{line_at, read_by}
 use Rattle.toml_working.specs.Standing.{Standing, Read, AreOrdered, is_below, line_standing, slot_standing}
 use Rattle.toml_working.specs.Stands.{BodyKept, KeepsRest, SlotKept, Stands}
 use Rattle.toml_working.specs.Turning.{OneTurns}
@@ -44,9 +47,24 @@ LeavesSlot p units old now = (text : List ℕ) (read : Read) → read.units ≡ 
 abbrev pub LeavesSlots : Address → List ReadUnit → ℕ → List Slot → List Slot → Type 0
 LeavesSlots p units = OneTurns (LeavesSlot p units)
 
--- a `remove` at the root on lines, one of which has the value
+abbrev pub steps_or_none : Option ℕ → ℕ
+steps_or_none None = 0
+steps_or_none (Some n) = n
+
+-- how many steps lead to the table in which a line with a key and a value stands; of another line none
+abbrev pub base_of : Option Standing → ℕ
+base_of None = 0
+base_of (Some s) = steps_or_none s.base
+
+abbrev pub CountsBase : List ReadUnit → List Slot → Position → ℕ → Type 0
+CountsBase units slots at result = (lines : List tree.Line) → result ≡ base_of (line_at (read_by units lines) slots at)
+
+-- the address has at most one step more than that
+abbrev pub IsUndottedAt : Address → Read → List Slot → Position → Type 0
+IsUndottedAt p read slots at = length p ≤ base_of (line_at read slots at) + 1
+
+-- a `remove` on lines, on one of which a key that is not dotted has the value
 abbrev pub RemovesLines : Address → Read → Tree → Tree → Type 0
 RemovesLines p read old now =
-    length p ≡ 1 → (ss : List Standing) → Stands (text_of old.texts.source) read old.slots.items ss → AreOrdered ss
-    → list_any (is_pair p) ss ≡ true
+    (ss : List Standing) → Stands (text_of old.texts.source) read old.slots.items ss → AreOrdered ss → list_any (is_undotted_pair p) ss ≡ true
     → KeepsRest old now × Stands (text_of old.texts.source) read now.slots.items (remove_standing p ss)

@@ -1,8 +1,8 @@
 //! `remove`: elements and pairs in a value, and lines.
-ghost use Rattle.std.specs.Prelude.{◌≡◌, IfOk, OnOk, length, true};
+ghost use Rattle.std.specs.Prelude.{◌≡◌, IfOk, OnOk, true};
 ghost use Rattle.toml_working.specs.HeldLines.{TakesFromValue};
 ghost use Rattle.toml_working.specs.InValues.{IsParent};
-ghost use Rattle.toml_working.specs.RemovingIn.{LeavesBehind, LeavesLines, LeavesOf, LeavesSlot, LeavesSlots, RemovesLines};
+ghost use Rattle.toml_working.specs.RemovingIn.{IsUndottedAt, LeavesBehind, LeavesLines, LeavesOf, LeavesSlot, LeavesSlots, RemovesLines};
 ghost use Rattle.toml_working.specs.Seeing.{IsSoughtAt};
 ghost use Rattle.toml_working.specs.declared.lines.Sought.TheVariants.{Holder};
 ghost use Rattle.toml_working.specs.Starting.{read_of};
@@ -90,8 +90,8 @@ impl<'x> Tree<'x> {
         at: &Address,
     ) -> Result<(), AllocError>
         ensures rest { OnOk result (KeepsRest self.old self.new) }
-        ensures slots { let units = before.entry.units.now in
-            OnOk result (length at.now ≡ 1 → LeavesSlots at.now units place.slot self.old.slots.items self.new.slots.items) }
+        ensures slots { let old = self.old.slots.items in
+            OnOk result (IsUndottedAt at.now (read_of before.entry) old place → LeavesSlots at.now before.entry.units.now place.slot old self.new.slots.items) }
     {
         let mut parent = self.parent_of_line(before, at, place)?;
         remove_in(
@@ -112,7 +112,7 @@ impl<'x> Tree<'x> {
         at: &Address,
         place: Position,
     ) -> Result<Parent, AllocError>
-        ensures { IfOk result (λ parent. length at.now ≡ 1 → parent.stays ≡ true) }
+        ensures { IfOk result (λ parent. IsUndottedAt at.now (read_of before.entry) self.now.slots.items place → parent.stays ≡ true) }
     {
         if self.base(before, place).saturating_add(1) < at.steps().len() {
             return self.parent_left(before, at, place.slot);
@@ -130,9 +130,7 @@ impl<'x> Tree<'x> {
         before: Before<'_, 'x>,
         at: &Address,
         slot: usize,
-    ) -> Result<Parent, AllocError>
-        ensures { IfOk result (λ parent. length at.now ≡ 1 → parent.stays ≡ true) }
-    {
+    ) -> Result<Parent, AllocError> {
         let address = parent_of(self.alloc(), at)?;
         let stays = address.steps().is_empty()
             || self.is_mentioned_around(before, slot, &address, at);

@@ -4,6 +4,7 @@ ghost use Rattle.toml_text.specs.Source.{text_of};
 ghost use Rattle.toml_working.specs.Starting.{AreFacts, IsAsRead, IsReadOf};
 ghost use Rattle.toml_working.specs.Putting.{IsLastAt};
 ghost use Rattle.toml_working.specs.Placing.{FindsLast, FindsRootEnd, IsOfRoot, PassesSlot};
+ghost use Rattle.toml_working.specs.RemovingIn.{CountsBase};
 ghost use Rattle.toml_working.specs.Seeing.{CountsSteps, FindsAny, FindsHolder, FindsLine, FindsTable, FindsValue, HoldsNone, SeesAt};
 
 use crate::elements::Elements;
@@ -145,7 +146,9 @@ impl<'x> Tree<'x> {
     }
 
     /// How many steps the address of the table has in which the line at a place stands.
-    pub(crate) fn base(&self, before: Before<'_, 'x>, at: Position) -> usize {
+    pub(crate) fn base(&self, before: Before<'_, 'x>, at: Position) -> usize
+        ensures { CountsBase before.entry.units.now self.now.slots.items at result }
+    {
         match self.seen(before, at) {
             Some(line) => line.base.unwrap_or(0),
             None => 0,

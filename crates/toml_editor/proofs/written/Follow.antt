@@ -19,7 +19,7 @@ use Rattle.toml_editor.specs.Exact.{Follows, IsAt, KeepsSource}
 use Rattle.toml_layout.specs.OpenOutlines.{leaf_text}
 use Rattle.toml_working.specs.Manners.{Manner}
 use Rattle.toml_working.specs.Putting.{manner}
-use Rattle.toml_working.specs.RemoveStanding.{is_pair}
+use Rattle.toml_working.specs.RemoveStanding.{is_undotted_pair}
 use Rattle.toml_working.specs.Removing.{remove_lines}
 use Rattle.toml_working.specs.RemovingIn.{RemovesLines}
 use Rattle.toml_working.specs.Setting.{set_lines}
@@ -97,8 +97,8 @@ pub remove_follows : (profile : Profile) (read : Read) (old new : Tree) (p : Add
 remove_follows profile read old new p text kinds now at none is_after (name, is, there) removes =
     let lines = at.good.tree.lines in
     let rules = at.good.good.0 in
-    let pair = subst (λ q. HasPair lines q → list_any (is_pair q) (standing lines) ≡ true) (sym is) (λ has_pair. pair_stands name lines has_pair rules) there in
-    let (rest, made) = removes (ap length is) (standing lines) at.stands (rules_order lines rules) pair in
+    let pair = subst (λ q. HasPair lines q → list_any (is_undotted_pair q) (standing lines) ≡ true) (sym is) (λ has_pair. pair_stands name lines has_pair rules) there in
+    let (rest, made) = removes (standing lines) at.stands (rules_order lines rules) pair in
     let edited = remove_lines p lines in
     let stands : Stands (text_of new.texts.source) read new.slots.items (standing edited) =
     subst₂ (λ (s : Texts) ls. Stands (text_of s.source) read new.slots.items ls) (sym rest.texts) (sym (remove_stands p lines)) made in

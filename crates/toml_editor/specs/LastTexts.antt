@@ -1,5 +1,5 @@
--- What is written where the last edit changes an array or an inline table in the value of a line.
-use Rattle.std.specs.Prelude.{◌≡◌, true, ℕ, List, [], ◌∷◌, ◌++◌, map}
+-- What is written where the last edit changes an array or an inline table in the value of a line, or takes out a line.
+use Rattle.std.specs.Prelude.{◌≡◌, ◌⊎◌, true, ℕ, List, [], ◌∷◌, ◌++◌, map}
 use Rattle.std.specs.List.{list_any}
 use Rattle.std.specs.declared.alloc.Global.{Global}
 use Rattle.std.specs.declared.string.String.{String}
@@ -18,6 +18,7 @@ use Rattle.toml_layout.specs.OpenOutlines.{value}
 use Rattle.toml_layout.specs.Outlines.{lines_outlined}
 use Rattle.toml_layout.specs.TreeOutlines.{value_outline}
 use Rattle.toml_working.specs.HeldLines.{SetsEach, has_holder_at}
+use Rattle.toml_working.specs.RemoveStanding.{is_undotted_pair, remove_standing}
 use Rattle.toml_working.specs.Standing.{AreOrdered, Standing, holds, standing}
 use Rattle.toml_working.specs.Written.{manner_of}
 use Rattle.toml_editor.specs.CertifiedLists.{ArePlain}
@@ -34,16 +35,24 @@ pub record PutsValue (layout : Layout) (profile : Profile) (p : Address) (text :
   pub outlined : value new ≡ value_outline tree
   pub put : ChangesHolder SetsEach (PutsHeld layout steps new) p old now
 
--- what the edit makes of lines: so it puts a value in, or takes out what stands at the address, and nothing else changes
-abbrev pub ChangesValue : Layout → Profile → Change → List Standing → List Standing → Type 0
-ChangesValue layout profile (insert p text) old now = PutsValue layout profile p text old now
-ChangesValue layout profile (remove p) old now = ChangesHolder SetsEach (TakesHeld layout) p old now
-ChangesValue layout profile _ old now = ⊥
+-- the array or the inline table that holds what stands at the address loses it, by the rules of the layout, and nothing else has changed
+abbrev pub TakesValue : Layout → Address → List Standing → List Standing → Type 0
+TakesValue layout p old now = (list_any (has_holder_at p) old ≡ true) × ChangesHolder SetsEach (TakesHeld layout) p old now
 
--- Law: of lines as the table rules have them an edit makes one thing.
-abbrev pub OneChangedValue : Type 0
-OneChangedValue = (layout : Layout) (profile : Profile) (c : Change) (old now new : List Standing) → AreOrdered old
-    → ChangesValue layout profile c old now → ChangesValue layout profile c old new → now ≡ new
+-- the line goes on which a key that is not dotted has the value at the address
+abbrev pub TakesLine : Address → List Standing → List Standing → Type 0
+TakesLine p old now = (list_any (is_undotted_pair p) old ≡ true) × (now ≡ remove_standing p old)
+
+-- what the edit makes of lines
+abbrev pub ChangesLines : Layout → Profile → Change → List Standing → List Standing → Type 0
+ChangesLines layout profile (insert p text) old now = PutsValue layout profile p text old now
+ChangesLines layout profile (remove p) old now = TakesValue layout p old now ⊎ TakesLine p old now
+ChangesLines layout profile _ old now = ⊥
+
+-- Law: of lines as the table rules have them it makes one thing.
+abbrev pub OneChange : Type 0
+OneChange = (layout : Layout) (profile : Profile) (c : Change) (old now new : List Standing) → AreOrdered old
+    → ChangesLines layout profile c old now → ChangesLines layout profile c old new → now ≡ new
 
 -- an array or an inline table in the value of a line holds what stands at the address, or would hold it
 abbrev pub HasHolderAt : List Line → Address → Type 0
@@ -54,11 +63,15 @@ abbrev pub IsPutThere : List Line → Address → Step → Type 0
 IsPutThere lines q (Name name) = HasHolderAt lines (child q name)
 IsPutThere lines q (Index i) = list_any (holds q) (standing lines) ≡ true
 
--- the edit puts an element or a pair into an array or an inline table in the value of a line, or takes one out
-abbrev pub IsInLineValue : List Line → Change → Type 0
-IsInLineValue lines (insert p text) = (q : Address) × (last : Step) × (p ≡ q ++ last ∷ []) × (¬ (q ≡ [])) × IsPutThere lines q last
-IsInLineValue lines (remove p) = HasHolderAt lines p
-IsInLineValue lines _ = ⊥
+-- a line has the value at the address, by a key that is not dotted
+abbrev pub HasLineAt : List Line → Address → Type 0
+HasLineAt lines p = list_any (is_undotted_pair p) (standing lines) ≡ true
+
+-- the edit puts an element or a pair into an array or an inline table in the value of a line, or takes out one, or such a line
+abbrev pub IsOnOneLine : List Line → Change → Type 0
+IsOnOneLine lines (insert p text) = (q : Address) × (last : Step) × (p ≡ q ++ last ∷ []) × (¬ (q ≡ [])) × IsPutThere lines q last
+IsOnOneLine lines (remove p) = HasHolderAt lines p ⊎ HasLineAt lines p
+IsOnOneLine lines _ = ⊥
 
 -- the text of what stands on lines
 abbrev pub standing_text : List Standing → List ℕ
@@ -66,9 +79,9 @@ standing_text ss = lines_outlined (map (λ (s : Standing). s.outline) ss)
 
 -- Where the edits before the last one are plain, and the last one is such an edit on the text that they write, the text is the mark and what
 -- the edit makes of the lines.
-abbrev pub WritesHeld : Layout → Profile → List ℕ → List Change → List ℕ → Type 0
-WritesHeld layout profile before cs after = OfTree before (λ d. (front : List Change) (c : Change) → cs ≡ front ++ c ∷ []
+abbrev pub WritesLast : Layout → Profile → List ℕ → List Change → List ℕ → Type 0
+WritesLast layout profile before cs after = OfTree before (λ d. (front : List Change) (c : Change) → cs ≡ front ++ c ∷ []
     → ArePlain profile front (manner_of layout d.lines) before
     → (between : List ℕ) → AreWritten profile front (manner_of layout d.lines) before between
-    → (e : Doc) → SpellsIn profile e between → IsInLineValue e.lines c
-    → (now : List Standing) × ChangesValue layout profile c (standing e.lines) now × (after ≡ e.mark.text ++ standing_text now))
+    → (e : Doc) → SpellsIn profile e between → IsOnOneLine e.lines c
+    → (now : List Standing) × ChangesLines layout profile c (standing e.lines) now × (after ≡ e.mark.text ++ standing_text now))
