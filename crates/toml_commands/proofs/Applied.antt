@@ -9,7 +9,7 @@ use Rattle.toml_edits.specs.Edits.{Change}
 use Rattle.toml_units.specs.Certificates.{certificate_of}
 use Rattle.toml_editor.specs.Edited.{IsEditedWith}
 use Rattle.toml_layout.specs.declared.layout.Layout.{Layout}
-use Rattle.toml_commands.specs.Apply.{Applies, IsApplied}
+use Rattle.toml_commands.specs.Apply.{Applies, IsListApplied}
 use Rattle.toml_commands.specs.Edit.{IsUnedited}
 use Rattle.toml_delivery.specs.Outcomes.{Answers, Ends, Gives, IsGood, Tells, texts_of}
 use Rattle.toml_delivery.specs.declared.ending.Ending.{Ending}
@@ -19,13 +19,13 @@ use Rattle.toml_delivery.specs.declared.outcome.Outcome.{Outcome}
 use Rattle.toml_delivery.specs.declared.refusal.Refusal.{Refusal}
 
 pub applied : (layout : Layout) (profile : Profile) (before edits : List ℕ) (cs : List Change) (text : List ℕ) (pairs : List (ℕ × ℕ)) (a : Answer) → IsEditList edits cs
-    → IsEditedWith layout profile before cs text pairs → a.out.items ≡ text → texts_of a.files.items ≡ certificate_of pairs ∷ [] → IsGood (IsApplied layout profile before edits) a
+    → IsEditedWith layout profile before cs text pairs → a.out.items ≡ text → texts_of a.files.items ≡ certificate_of pairs ∷ [] → IsGood (IsListApplied layout profile before edits) a
 applied layout profile before edits cs text pairs a listed is printed written =
-    subst (λ t. IsApplied layout profile before edits t (texts_of a.files.items)) (sym printed)
+    subst (λ t. IsListApplied layout profile before edits t (texts_of a.files.items)) (sym printed)
     (certificate_of pairs, record { changes = cs; listed = listed; made = record { pairs = pairs; edited = is; written = refl } }, written)
 
 module _ (layout : Layout) (profile : Profile) (before edits : List ℕ) where
-  printed : (a : Answer) → IsGood (IsApplied layout profile before edits) a → (o : Outcome) → Gives a.out.items (texts_of a.files.items) o → Applies layout profile before edits o
+  printed : (a : Answer) → IsGood (IsListApplied layout profile before edits) a → (o : Outcome) → Gives a.out.items (texts_of a.files.items) o → Applies layout profile before edits o
   printed a good o gives =
       let made = good.1.made in
       inr (good.1.changes, good.1.listed, inl (a.out.items, good.0, made, subst (λ (ts : List (List ℕ)). Gives a.out.items ts o) good.2 gives))
@@ -35,7 +35,7 @@ module _ (layout : Layout) (profile : Profile) (before edits : List ℕ) where
   told r (inr is) o tells = inr (is.changes, is.listed, inr (r, is.unmade, tells))
 
   -- what the command comes to
-  pub comes : (answer : Result Answer Ending) (result : Result Outcome AllocError) → IfOk answer (IsGood (IsApplied layout profile before edits))
+  pub comes : (answer : Result Answer Ending) (result : Result Outcome AllocError) → IfOk answer (IsGood (IsListApplied layout profile before edits))
       → IfErr answer (Ends (IsUnedited layout profile before edits)) → IfOk result (Answers answer) → IfOk result (Applies layout profile before edits)
   comes (Ok a) result good bad = IfOk-weaker result (Gives a.out.items (texts_of a.files.items)) (Applies layout profile before edits) (printed a good)
   comes (Err (ends.Refused r)) result good bad = IfOk-weaker result (Tells r) (Applies layout profile before edits) (told r bad)

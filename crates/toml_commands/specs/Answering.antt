@@ -104,9 +104,9 @@ IsAnswer (certify before edits after cert profile) inputs o = OfThree (λ first 
 IsAnswer (validate files profile) inputs o = ⊥
 
 -- that is told; none is only where what was read are not as many as the words that are read, and of `validate`
-abbrev pub Answers : Asked → List (List ℕ) → Option Outcome → Type 0
-Answers asked inputs (Some o) = IsAnswer asked inputs o
-Answers asked inputs None = (¬ (length inputs ≡ length (words_read asked))) ⊎ (words_read asked ≡ [])
+abbrev pub AnswersRequest : Asked → List (List ℕ) → Option Outcome → Type 0
+AnswersRequest asked inputs (Some o) = IsAnswer asked inputs o
+AnswersRequest asked inputs None = (¬ (length inputs ≡ length (words_read asked))) ⊎ (words_read asked ≡ [])
 
 -- so of a request that reads one file; none of those that read more, or none
 abbrev pub AnswersOfFile : Asked → List ℕ → Option Outcome → Type 0

@@ -21,16 +21,16 @@ use Rattle.toml_delivery.specs.declared.refusal.Refusal.{Refusal}
 
 -- What is found at the place of a document with these lines and data: nothing; what stands there, in the form; or the bytes of the one
 -- value that stands there, which may be none.
-abbrev pub IsFound : List Line → Kinds → List PlaceStep → GetForm → Found → Type 0
-IsFound lines kinds place form Nothing = NothingAt kinds place
-IsFound lines kinds place (Printed form) (Text text) = PrintsAt form kinds place text.items
-IsFound lines kinds place (Printed form) Spread = ⊥
-IsFound lines kinds place Toml (Text text) = IsSpelledAt lines kinds place text.items
-IsFound lines kinds place Toml Spread = IsSpreadAt lines kinds place
+abbrev pub IsFoundAt : List Line → Kinds → List PlaceStep → GetForm → Found → Type 0
+IsFoundAt lines kinds place form Nothing = NothingAt kinds place
+IsFoundAt lines kinds place (Printed form) (Text text) = PrintsAt form kinds place text.items
+IsFoundAt lines kinds place (Printed form) Spread = ⊥
+IsFoundAt lines kinds place Toml (Text text) = IsSpelledAt lines kinds place text.items
+IsFoundAt lines kinds place Toml Spread = IsSpreadAt lines kinds place
 
 -- the bytes are a document of the profile, and this is what is found at the place
 abbrev pub Finds : Profile → List ℕ → List PlaceStep → GetForm → Found → Type 0
-Finds profile file place form found = IsGoodTextWith profile file (λ lines. (kinds : Kinds) × IsDataOf (named lines) kinds × IsFound lines kinds place form found)
+Finds profile file place form found = IsGoodTextWith profile file (λ lines. (kinds : Kinds) × IsDataOf (named lines) kinds × IsFoundAt lines kinds place form found)
 
 -- 307: no single value stands there
 abbrev pub spread : Refusal
@@ -60,7 +60,7 @@ Gets profile file place form default o =
 
 -- Words of the code's own contracts: what is found in closed data, in a form and as it is spelled.
 abbrev pub FindsForm : Form → Kinds → List PlaceStep → Found → Type 0
-FindsForm form kinds place found = (lines : List Line) → IsClosed kinds → IsFound lines kinds place (Printed form) found
+FindsForm form kinds place found = (lines : List Line) → IsClosed kinds → IsFoundAt lines kinds place (Printed form) found
 
 abbrev pub FindsSpelled : List Line → Kinds → List PlaceStep → Found → Type 0
-FindsSpelled lines kinds place found = IsClosed kinds → IsFound lines kinds place Toml found
+FindsSpelled lines kinds place found = IsClosed kinds → IsFoundAt lines kinds place Toml found

@@ -56,7 +56,7 @@ pub record IsMadeAt (layout : Layout) (profile : Profile) (before place : List �
   pub files : written ≡ certificate ∷ []
 
 -- PLACE is a place, and the edits that stand for the wish there are refused
-pub record IsRefusedAt (layout : Layout) (profile : Profile) (before place : List ℕ) (wish : Wished) (r : Refusal) : Type 0 where
+pub record IsWishRefused (layout : Layout) (profile : Profile) (before place : List ℕ) (wish : Wished) (r : Refusal) : Type 0 where
   pub steps : List PlaceStep
   pub spelled : IsPlace place steps
   pub changes : List Change
@@ -66,16 +66,16 @@ pub record IsRefusedAt (layout : Layout) (profile : Profile) (before place : Lis
 -- PLACE is judged first, then the document, and then the edits
 abbrev pub IsUnmadeAt : Layout → Profile → List ℕ → List ℕ → Wished → Refusal → Type 0
 IsUnmadeAt layout profile before place wish r =
-    IsBadPlace place r ⊎ (((steps : List PlaceStep) × IsPlace place steps × IsRefused profile before r) ⊎ IsRefusedAt layout profile before place wish r)
+    IsBadPlace place r ⊎ (((steps : List PlaceStep) × IsPlace place steps × IsRefused profile before r) ⊎ IsWishRefused layout profile before place wish r)
 
 -- The document is judged, and of the edits that stand for the wish at the steps is said what `edit` says of them, word for word, but for
 -- the way in which a text is handed out.
-abbrev pub MakesAt : Layout → Profile → List ℕ → List PlaceStep → Wished → Outcome → Type 0
-MakesAt layout profile before steps wish o =
+abbrev pub MakesWishAt : Layout → Profile → List ℕ → List PlaceStep → Wished → Outcome → Type 0
+MakesWishAt layout profile before steps wish o =
     ((r : Refusal) × IsRefused profile before r × Tells r o)
     ⊎ ((changes : List Change) × AreWished profile before steps wish changes × Says PrintsText layout profile before changes o)
 
 -- PLACE is judged first
 abbrev pub MakesWish : Layout → Profile → List ℕ → List ℕ → Wished → Outcome → Type 0
 MakesWish layout profile before place wish o =
-    ((r : Refusal) × IsBadPlace place r × Tells r o) ⊎ ((steps : List PlaceStep) × IsPlace place steps × MakesAt layout profile before steps wish o)
+    ((r : Refusal) × IsBadPlace place r × Tells r o) ⊎ ((steps : List PlaceStep) × IsPlace place steps × MakesWishAt layout profile before steps wish o)

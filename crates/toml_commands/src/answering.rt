@@ -1,7 +1,7 @@
 //! What a request comes to, by the bytes of what it reads.
 ghost use Rattle.std.specs.Prelude.{◌≡◌, IfOk, map, option_map};
 ghost use Rattle.toml_words.specs.Request.{asked_by};
-ghost use Rattle.toml_commands.specs.Answering.{Answers, AnswersOfFile, IsShown, document_at, get_form, list_at, sought, text_layout, words_read};
+ghost use Rattle.toml_commands.specs.Answering.{AnswersRequest, AnswersOfFile, IsShown, document_at, get_form, list_at, sought, text_layout, words_read};
 ghost use Rattle.toml_delivery.specs.Outcomes.{texts_of};
 
 use crate::apply::run_apply_in;
@@ -108,7 +108,7 @@ pub fn answer(
     request: &Request<'_>,
     inputs: &[Vec<u8>],
 ) -> Result<Option<Outcome>, AllocError>
-    ensures { IfOk result (Answers (asked_by request.now) (texts_of inputs.now)) }
+    ensures { IfOk result (AnswersRequest (asked_by request.now) (texts_of inputs.now)) }
 {
     match *request {
         Request::Apply {

@@ -1,7 +1,7 @@
 //! `apply`: the text that edits make of a document.
 ghost use Rattle.std.specs.Prelude.{◌≡◌, [], ◌∷◌, IfErr, IfOk, string_bytes};
 ghost use Rattle.toml_units.specs.Certificates.{certificate_of};
-ghost use Rattle.toml_commands.specs.Apply.{Applies, IsApplied};
+ghost use Rattle.toml_commands.specs.Apply.{Applies, IsListApplied};
 ghost use Rattle.toml_commands.specs.Edit.{IsUnedited};
 ghost use Rattle.toml_delivery.specs.Outcomes.{Ends, IsGood, texts_of};
 
@@ -36,7 +36,7 @@ fn applied(
     profile: Profile,
     layout: Layout,
 ) -> Result<Answer, Ending>
-    ensures good { IfOk result (IsGood (IsApplied layout profile file.now edits.now)) }
+    ensures good { IfOk result (IsGood (IsListApplied layout profile file.now edits.now)) }
     ensures refused { IfErr result (Ends (IsUnedited layout profile file.now edits.now)) }
 {
     let edits = edit_list(alloc, edits)?;

@@ -10,7 +10,7 @@ use Rattle.toml_replace.specs.declared.fault.ReplaceFault.{ReplaceFault}
 use Rattle.toml_words.specs.Request.{is_input}
 use Rattle.toml_words.specs.declared.request.Destination.{Destination}
 use Rattle.toml_words.specs.declared.request.Request.{Request}
-use Rattle.tomled.specs.Finishing.{HasNamed, IsCertified, IsCompared, IsEdited, IsFileFault, IsFirst, IsLeft, IsPlaced, IsReplaced, IsSettled, Path, all_compared, certificate_at, compared, judged_compared, path_or, words_compared}
+use Rattle.tomled.specs.Finishing.{HasNamed, IsCertifySettled, IsCompared, IsEditSettled, IsFileFault, IsFirst, IsLeft, IsPlaced, IsReplaced, IsSettled, Path, all_compared, certificate_at, compared, judged_compared, path_or, words_compared}
 use Rattle.toml_delivery.specs.declared.fault.RunFault.{RunFault}
 use Rattle.toml_delivery.specs.declared.outcome.Outcome.{Outcome}
 
@@ -128,15 +128,15 @@ module _ (path file : List ℕ) where
 -- what is left of an outcome
 module _ (file : List ℕ) (list : Option Path) (d : Destination) (inputs : List (Vec ℕ Global)) (old : Outcome) where
   pub is_refused : old.status ≡ 0 → (e : Error) (r : Result Outcome RunFault) → IsFileFault true (path_or d.certificate file) r → (a b : Option Calls)
-      → Made a b (IsCompared (all_compared d.certificate file list) (Err e)) → Made a b (IsEdited file list d inputs old r)
+      → Made a b (IsCompared (all_compared d.certificate file list) (Err e)) → Made a b (IsEditSettled file list d inputs old r)
   is_refused good e r fault a b asked =
-      so_asked (IsCutShort (all_compared d.certificate file list)) (IsEdited file list d inputs old r) a b asked (λ xs cut. inr (inl (good, cut, fault)))
+      so_asked (IsCutShort (all_compared d.certificate file list)) (IsEditSettled file list d inputs old r) a b asked (λ xs cut. inr (inl (good, cut, fault)))
 
   pub is_placed : old.status ≡ 0 → (r : Result Outcome RunFault) (a b c : Option Calls)
       → Made a b (IsCompared (all_compared d.certificate file list) (Ok tt)) → Made b c (IsPlaced file d inputs old r)
-      → Made a c (IsEdited file list d inputs old r)
+      → Made a c (IsEditSettled file list d inputs old r)
   is_placed good r a b c asked placed =
-      both_asked (λ xs. xs ≡ all_compared d.certificate file list) (IsPlaced file d inputs old r) (IsEdited file list d inputs old r) a b c asked placed
+      both_asked (λ xs. xs ≡ all_compared d.certificate file list) (IsPlaced file d inputs old r) (IsEditSettled file list d inputs old r) a b c asked placed
       (λ xs ys p q. inr (inr (good, ys, ap (λ l. l ++ ys) p, q)))
 
   pub is_replaced : d.in_place ≡ true → ¬ IsFirst inputs old.out.items → (r : Result Outcome RunFault) (a b : Option Calls)
@@ -146,28 +146,28 @@ module _ (file : List ℕ) (list : Option Path) (d : Destination) (inputs : List
 
 -- what is left of an outcome of `certify`
 module _ (before edits after : List ℕ) (given : Option Path) (path : Path) (is : given ≡ Some path) (old : Outcome) where
-  at_path : (r : Result Outcome RunFault) (xs : Calls) → IsCertified before edits after (Some path) old r xs → IsCertified before edits after given old r xs
-  at_path r xs h = subst (λ p. IsCertified before edits after p old r xs) (sym is) h
+  at_path : (r : Result Outcome RunFault) (xs : Calls) → IsCertifySettled before edits after (Some path) old r xs → IsCertifySettled before edits after given old r xs
+  at_path r xs h = subst (λ p. IsCertifySettled before edits after p old r xs) (sym is) h
 
-  pub left_alone : old.status ≢ 0 → (a : Option Calls) → Made a a (IsCertified before edits after given old (Ok old))
-  left_alone bad a = nothing_asked (IsCertified before edits after given old (Ok old)) a (at_path (Ok old) [] (inl (bad, refl, refl)))
+  pub left_alone : old.status ≢ 0 → (a : Option Calls) → Made a a (IsCertifySettled before edits after given old (Ok old))
+  left_alone bad a = nothing_asked (IsCertifySettled before edits after given old (Ok old)) a (at_path (Ok old) [] (inl (bad, refl, refl)))
 
   pub not_certified : old.status ≡ 0 → (e : Error) (r : Result Outcome RunFault) → IsFileFault true path.now r → (a b : Option Calls)
-      → Made a b (IsCompared (judged_compared path.now before edits after) (Err e)) → Made a b (IsCertified before edits after given old r)
+      → Made a b (IsCompared (judged_compared path.now before edits after) (Err e)) → Made a b (IsCertifySettled before edits after given old r)
   not_certified good e r fault a b asked =
-      so_asked (IsCutShort (judged_compared path.now before edits after)) (IsCertified before edits after given old r) a b asked
+      so_asked (IsCutShort (judged_compared path.now before edits after)) (IsCertifySettled before edits after given old r) a b asked
       (λ xs cut. at_path r xs (inr (inl (good, cut, fault))))
 
   pub is_certified : old.status ≡ 0 → (a b : Option Calls) → Made a b (IsCompared (judged_compared path.now before edits after) (Ok tt))
-      → Made a b (IsCertified before edits after given old (Ok old))
+      → Made a b (IsCertifySettled before edits after given old (Ok old))
   is_certified good a b asked =
-      so_asked (λ xs. xs ≡ judged_compared path.now before edits after) (IsCertified before edits after given old (Ok old)) a b asked
+      so_asked (λ xs. xs ≡ judged_compared path.now before edits after) (IsCertifySettled before edits after given old (Ok old)) a b asked
       (λ xs h. at_path (Ok old) xs (inr (inr (good, h, refl))))
 
 pub without_path : (before edits after : List ℕ) (given : Option Path) → given ≡ None → (old new : Outcome) → HasNamed None old new → (a : Option Calls)
-    → Made a a (IsCertified before edits after given old (Ok new))
+    → Made a a (IsCertifySettled before edits after given old (Ok new))
 without_path before edits after given is old new h a =
-    nothing_asked (IsCertified before edits after given old (Ok new)) a (subst (λ p. IsCertified before edits after p old (Ok new) []) (sym is) (refl, new, refl, h))
+    nothing_asked (IsCertifySettled before edits after given old (Ok new)) a (subst (λ p. IsCertifySettled before edits after p old (Ok new) []) (sym is) (refl, new, refl, h))
 
 -- a replacement
 pub was_replaced : (file : List ℕ) (path : Option Path) (old : Outcome) (text : List ℕ) (pair : Option (List ℕ × List ℕ)) → text ≡ old.out.items → pair ≡ certificate_at path old.files.items

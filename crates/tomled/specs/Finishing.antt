@@ -118,25 +118,25 @@ IsPlaced file d inputs old result calls =
     ⊎ ((d.in_place ≡ true) × (¬ IsFirst inputs old.out.items) × IsReplaced file d.certificate old result calls))
 
 -- An outcome of an edit of FILE, by a list of edits or without one. A refusal is left alone.
-abbrev pub IsEdited : List ℕ → Option Path → Destination → List (Vec ℕ Global) → Outcome → Result Outcome RunFault → List Call → Type 0
-IsEdited file list d inputs old result calls =
+abbrev pub IsEditSettled : List ℕ → Option Path → Destination → List (Vec ℕ Global) → Outcome → Result Outcome RunFault → List Call → Type 0
+IsEditSettled file list d inputs old result calls =
     ((old.status ≢ 0) × (calls ≡ []) × (result ≡ Ok old))
     ⊎ (((old.status ≡ 0) × IsCutShort (all_compared d.certificate file list) calls × IsFileFault true (path_or d.certificate file) result)
     ⊎ ((old.status ≡ 0) × (more : List Call) × (calls ≡ all_compared d.certificate file list ++ more) × IsPlaced file d inputs old result more))
 
 -- An outcome of `certify`. Without a path there is no file; a refusal is left alone; else the path may lead to none of the three.
-abbrev pub IsCertified : List ℕ → List ℕ → List ℕ → Option Path → Outcome → Result Outcome RunFault → List Call → Type 0
-IsCertified before edits after None old result calls = (calls ≡ []) × (new : Outcome) × (result ≡ Ok new) × HasNamed None old new
-IsCertified before edits after (Some path) old result calls =
+abbrev pub IsCertifySettled : List ℕ → List ℕ → List ℕ → Option Path → Outcome → Result Outcome RunFault → List Call → Type 0
+IsCertifySettled before edits after None old result calls = (calls ≡ []) × (new : Outcome) × (result ≡ Ok new) × HasNamed None old new
+IsCertifySettled before edits after (Some path) old result calls =
     ((old.status ≢ 0) × (calls ≡ []) × (result ≡ Ok old))
     ⊎ (((old.status ≡ 0) × IsCutShort (judged_compared path.now before edits after) calls × IsFileFault true path.now result)
     ⊎ ((old.status ≡ 0) × (calls ≡ judged_compared path.now before edits after) × (result ≡ Ok old)))
 
 -- An outcome of a request.
 abbrev pub IsSettled : Request → List (Vec ℕ Global) → Outcome → Result Outcome RunFault → List Call → Type 0
-IsSettled (requests.Certify before edits after cert profile) inputs old result calls = IsCertified before.now edits.now after.now cert old result calls
-IsSettled (requests.One file place e d layout profile) inputs old result calls = IsEdited file.now None d inputs old result calls
-IsSettled (requests.Apply file edits d layout profile) inputs old result calls = IsEdited file.now (Some edits) d inputs old result calls
+IsSettled (requests.Certify before edits after cert profile) inputs old result calls = IsCertifySettled before.now edits.now after.now cert old result calls
+IsSettled (requests.One file place e d layout profile) inputs old result calls = IsEditSettled file.now None d inputs old result calls
+IsSettled (requests.Apply file edits d layout profile) inputs old result calls = IsEditSettled file.now (Some edits) d inputs old result calls
 IsSettled _ inputs old result calls = (calls ≡ []) × (result ≡ Ok old)
 
 -- the paths of the files that a request has written, in their order

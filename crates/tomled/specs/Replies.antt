@@ -4,7 +4,7 @@ use Rattle.std.specs.declared.alloc.Global.{Global}
 use Rattle.toml_words.specs.Request.{asked_by}
 use Rattle.toml_words.specs.declared.request.Request.{Request}
 use Rattle.toml_words.specs.declared.request.Request.TheVariants as requests
-use Rattle.toml_commands.specs.Answering.{Answers, IsAnswer, sought, words_read}
+use Rattle.toml_commands.specs.Answering.{AnswersRequest, IsAnswer, sought, words_read}
 use Rattle.toml_commands.specs.Explaining.{IsExplained, explains}
 use Rattle.toml_commands.specs.declared.answering.Source.{Source}
 use Rattle.toml_delivery.specs.Outcomes.{texts_of}
@@ -49,4 +49,4 @@ IsReplyFrom request (Err fault) reads = (fault ≡ Memory) ⊎ (words_read (aske
 abbrev pub IsReplyBy : Request → List (Vec ℕ Global) → Result Reply RunFault → Type 0
 IsReplyBy request inputs (Ok reply) =
     (reply.inputs.items ≡ inputs) × (plain : Outcome) × IsAnswer (asked_by request) (texts_of inputs) plain × IsExplained request inputs plain reply.outcome
-IsReplyBy request inputs (Err fault) = (fault ≡ Memory) ⊎ ((fault ≡ Words) × Answers (asked_by request) (texts_of inputs) None)
+IsReplyBy request inputs (Err fault) = (fault ≡ Memory) ⊎ ((fault ≡ Words) × AnswersRequest (asked_by request) (texts_of inputs) None)

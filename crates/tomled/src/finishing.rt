@@ -4,7 +4,7 @@ ghost use Rattle.toml_replace.specs.Calls.{Made};
 ghost use Rattle.toml_replace.specs.Replacement.{pair_of};
 ghost use Rattle.tomled.specs.Asking.{Asked};
 ghost use Rattle.tomled.specs.Ending.{IsGivenOut, IsPrintedAlone, IsPrintedIfAny, TellsUnopened};
-ghost use Rattle.tomled.specs.Finishing.{HasNamed, IsCertified, IsCompared, IsEdited, IsFileFault, IsFirst, IsReplaced, IsSettled, IsPlaced, IsUnreplaced};
+ghost use Rattle.tomled.specs.Finishing.{HasNamed, IsCertifySettled, IsCompared, IsEditSettled, IsFileFault, IsFirst, IsReplaced, IsSettled, IsPlaced, IsUnreplaced};
 ghost use Rattle.tomled.specs.Finishing.{all_compared, certificate_at, compared, judged_compared, path_or, words_compared, written};
 
 use crate::opening::{Opener, written_out};
@@ -130,7 +130,7 @@ fn certified<D: Disk>(
     cert: Option<&str>,
     outcome: Outcome,
 ) -> Result<Outcome, RunFault>
-    ensures { Made (D.calls disk.old) (D.calls disk.new) (IsCertified before.now edits.now after.now cert.entry outcome result) }
+    ensures { Made (D.calls disk.old) (D.calls disk.new) (IsCertifySettled before.now edits.now after.now cert.entry outcome result) }
 {
     let Some(path) = cert else {
         return Ok(outcome.without_files(alloc));
@@ -179,7 +179,7 @@ fn edited<D: Disk>(
     inputs: &[Vec<u8>],
     outcome: Outcome,
 ) -> Result<Outcome, RunFault>
-    ensures { Made (D.calls disk.old) (D.calls disk.new) (IsEdited file.now list.entry destination.entry inputs.now outcome result) }
+    ensures { Made (D.calls disk.old) (D.calls disk.new) (IsEditSettled file.now list.entry destination.entry inputs.now outcome result) }
 {
     if outcome.status != 0 {
         return Ok(outcome);
