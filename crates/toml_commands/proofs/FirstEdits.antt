@@ -16,7 +16,7 @@ use Rattle.toml_one.proofs.Proved.{EndsTooDeep, IsCut, deep_is_refused, whole_or
 use Rattle.toml_checker.specs.Documents.{AreDefined, OfData}
 use Rattle.toml_editor.specs.CertifiedLists.{ArePlain}
 use Rattle.toml_editor.specs.Edited.{IsEditedWith, MayBeSpread, OfDefined, OnDataSoFar, SoFar, TakesLastElement, TellsWith}
-use Rattle.toml_editor.specs.PlainTexts.{AfterPlain, HasOnePlace, IsSpreadSet, LacksPlace, NoSpreadSet}
+use Rattle.toml_editor.specs.PlainTexts.{AfterPlain, IsPlainOrHeld, IsSpreadSet, IsNeitherPlainNorHeld, NoSpreadSet}
 use Rattle.toml_editor.specs.Steps.{AreWritten}
 use Rattle.toml_editor.specs.declared.fault.EditorFault.{EditorFault}
 use Rattle.toml_editor.specs.declared.fault.EditorFault.TheVariants as faults
@@ -64,8 +64,8 @@ module _ (layout : Layout) (profile : Profile) (before : List ℕ) (some left : 
     data_so_far : (P : Change → Kinds → Type 0) → OnDataSoFar profile before some k P → OnDataSoFar profile before (some ++ left) k P
     data_so_far P (d, spells, old, facts, so) = (d, spells, old, facts, so_far old P so)
 
-    lacks_place : LacksPlace layout profile before some k → LacksPlace layout profile before (some ++ left) k
-    lacks_place (d, spells, none) = (d, spells, after_plain d (λ c text. ¬ HasOnePlace profile text c) none)
+    neither_edit : IsNeitherPlainNorHeld layout profile before some k → IsNeitherPlainNorHeld layout profile before (some ++ left) k
+    neither_edit (d, spells, none) = (d, spells, after_plain d (λ c text. ¬ IsPlainOrHeld profile text c) none)
 
   no_spread : (n : ℕ) → n ≤ length some → NoSpreadSet layout profile before some n → NoSpreadSet layout profile before (some ++ left) n
   no_spread n within (d, spells, none) = (d, spells, λ k low. after_plain k (omega (arith, within, low)) d (λ c text. ¬ IsSpreadSet profile text c) (none k low))
@@ -85,11 +85,11 @@ module _ (layout : Layout) (profile : Profile) (before : List ℕ) (some left : 
   tells ends (faults.Spread index) (document, (d, spells, on), plain, none) =
       let P : Change → Kinds → Type 0 = OfDefined profile (MayBeSpread (place (named d.lines)) index) in
       let low = is_within index P on in
-      (document, (d, spells, data_so_far index low P on), lacks_place index low plain, no_spread index (below index low) none)
+      (document, (d, spells, data_so_far index low P on), neither_edit index low plain, no_spread index (below index low) none)
   tells ends (faults.LastElement index) (document, on, plain, none) =
       let P : Change → Kinds → Type 0 = OfDefined profile TakesLastElement in
       let low = is_within index P on in
-      (document, data_so_far index low P on, lacks_place index low plain, no_spread index (below index low) none)
+      (document, data_so_far index low P on, neither_edit index low plain, no_spread index (below index low) none)
   tells ends faults.TooLong (defined, long, none) = absurd (not_defined profile before some ends defined.1)
   tells ends (faults.Unverified reason) (defined, plain, none, unmet) = absurd (not_defined profile before some ends defined.1)
   tells ends (faults.Text fault) told = told

@@ -81,5 +81,5 @@ pub turned_told : (read : Read) (i : ℕ) (c : Change) (old mid : Draft) (tree :
     → RefusesEdit read i c old tree fault
 turned_told read i c old mid tree fault same refuses = record {
   told = subst (λ k. TellsOne read.profile (places_in read) i c k fault) (fun_ext same) refuses.told;
-  lacks = refuses.lacks;
+  neither = refuses.neither;
 }

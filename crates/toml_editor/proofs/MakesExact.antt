@@ -25,15 +25,15 @@ use Rattle.toml_working.specs.declared.working.Tree.{Tree}
 use Rattle.toml_editor.specs.CertifiedLists.{ArePlain}
 use Rattle.toml_editor.specs.Edited.{MayBeSpread, TakesLastElement}
 use Rattle.toml_working.specs.InValues.{Places}
-use Rattle.toml_editor.specs.LastTexts.{ChangesLines, IsOnOneLine, IsPutThere}
-use Rattle.toml_editor.specs.Exact.{Follows, HoldsLast, HoldsOne, IsAt, IsOnePlace, IsSpreadOn, LacksPlaceAt, LacksPlaceOn, MakesAll, MakesOne, OfPlain, OfNoPlaceAt, PassesAll, PassesAt, PassesOne, Stops, WritesEdit}
+use Rattle.toml_editor.specs.LastTexts.{ChangesLines, IsHeldOrUndotted, IsPutThere}
+use Rattle.toml_editor.specs.Exact.{Follows, HoldsLast, HoldsOne, IsAt, IsOnePlace, IsSpreadOn, IsNeitherAt, IsNeitherOn, MakesAll, MakesOne, OfPlain, OfNoPlaceAt, PassesAll, PassesAt, PassesOne, Stops, WritesEdit}
 use Rattle.toml_working.specs.Putting.{manner}
 use Rattle.toml_editor.specs.Making.{TellsOne}
-use Rattle.toml_editor.specs.PlainTexts.{HasHolderFor, HasOnePlace, IsPlainOn}
+use Rattle.toml_editor.specs.PlainTexts.{HasContainerFor, IsPlainOrHeld, IsPlainOn}
 use Rattle.toml_text.specs.Source.{text_of}
 use Rattle.toml_layout.specs.declared.texts.Texts.{Texts}
 use Rattle.toml_working.proofs.Proved.{held_inside, parent_held}
-use Rattle.toml_working.specs.HeldLines.{has_holder_at}
+use Rattle.toml_working.specs.HeldLines.{has_container_at}
 use Rattle.toml_working.specs.RemoveStanding.{remove_standing}
 use Rattle.toml_working.specs.Standing.{Read, Standing, holds, standing}
 use Rattle.toml_working.specs.Stands.{Stands}
@@ -79,10 +79,10 @@ put_there q (Index i) lines there = there
 put_there q (Name n) lines held = parent_held q (Name n) (standing lines) held
 
 put_is_made : (near : Kinds) (p : Address) (value : List ℕ) (lines : List Line) (done : Bool) → (done ≡ true) ⊎ IsOnePlace (insert p value) near
-    → done ≡ list_any (has_holder_at p) (standing lines) → (q : Address) (last : Step) → p ≡ q ++ last ∷ [] → IsPutThere lines q last → done ≡ true
+    → done ≡ list_any (has_container_at p) (standing lines) → (q : Address) (last : Step) → p ≡ q ++ last ∷ [] → IsPutThere lines q last → done ≡ true
 put_is_made near p value lines done (inl made) told q last is there = made
 put_is_made near p value lines done (inr one) told q (Index i) is there = absurd (one q i is)
-put_is_made near p value lines done (inr one) told q (Name n) is there = told ∙ ap (λ a. list_any (has_holder_at a) (standing lines)) is ∙ there
+put_is_made near p value lines done (inr one) told q (Name n) is there = told ∙ ap (λ a. list_any (has_container_at a) (standing lines)) is ∙ there
 
 pub holds_one : (profile : Profile) (read : Read) (near : Kinds) (c : Change) (old new : Tree) (done : Bool) → WritesEdit profile read c old new done
     → (done ≡ true) ⊎ IsOnePlace c near → HoldsOne profile read c old new
@@ -130,17 +130,17 @@ no_element (s ∷ t ∷ q) i name is = cc
 -- what holds what is put in, or taken out, is found
 put_is_found : (profile : Profile) (read : Read) (p : Address) (value : List ℕ) (old new : Tree) (done : Bool) → WritesEdit profile read (insert p value) old new done
     → (text : List ℕ) (kinds now : Kinds) → (at : IsAt profile read old text kinds) → IsAfter profile (insert p value) kinds now
-    → HasHolderFor at.good.tree.lines (insert p value) → done ≡ true
+    → HasContainerFor at.good.tree.lines (insert p value) → done ≡ true
 put_is_found profile read p value old new done writes text kinds now at is_after (q, last, is, not_root, held) =
     let (steps, rest, spelled, inserts, inside) = writes at.whole in
     let given = is_after.1.value in
     let lines = at.good.tree.lines in
     let (opened, outlined, holds_it) = inside given.within given.tree given.is_value in
-    let there = parent_held q last (standing lines) (subst (λ a. list_any (has_holder_at a) (standing lines) ≡ true) is held) in
+    let there = parent_held q last (standing lines) (subst (λ a. list_any (has_container_at a) (standing lines) ≡ true) is held) in
     (holds_it q last is not_root (standing lines) at.stands (rules_order lines at.good.good.0) there).tells ∙ held
 
 taken_is_found : (profile : Profile) (read : Read) (p : Address) (old new : Tree) (done : Bool) → WritesEdit profile read (remove p) old new done
-    → (text : List ℕ) (kinds : Kinds) → (at : IsAt profile read old text kinds) → HasHolderFor at.good.tree.lines (remove p) → done ≡ true
+    → (text : List ℕ) (kinds : Kinds) → (at : IsAt profile read old text kinds) → HasContainerFor at.good.tree.lines (remove p) → done ≡ true
 taken_is_found profile read p old new done writes text kinds at held =
     let lines = at.good.tree.lines in
     let (not_root, inside) = held_inside p (standing lines) held in
@@ -148,7 +148,7 @@ taken_is_found profile read p old new done writes text kinds at held =
 
 -- one that is not made, and whose place may be spread, has no one place
 pub not_spread : (profile : Profile) (read : Read) (places : Places) (i : ℕ) (seen : Kinds) (c : Change) (old new : Tree) (done : Bool)
-    → WritesEdit profile read c old new done → done ≡ false → MayBeSpread places i c seen → LacksPlaceOn profile read c old
+    → WritesEdit profile read c old new done → done ≡ false → MayBeSpread places i c seen → IsNeitherOn profile read c old
 not_spread profile read places i seen (set p value) old new done writes is may text kinds now at none is_after one =
     true≢false (sym (set_made profile read p value old new done writes text kinds now at none is_after plain).0 ∙ is)
   where
@@ -175,7 +175,7 @@ not_spread profile read places i seen (new_element p) old new done writes is may
 
 -- nor has one that takes a last element
 pub not_last : (profile : Profile) (read : Read) (seen : Kinds) (c : Change) (old new : Tree) (done : Bool) → WritesEdit profile read c old new done
-    → done ≡ false → TakesLastElement c seen → LacksPlaceOn profile read c old
+    → done ≡ false → TakesLastElement c seen → IsNeitherOn profile read c old
 not_last profile read seen (remove p) old new done writes is (q, at_index, some, only) text kinds now at none is_after one =
     elim (one at.good.tree at.good.spelled) [
       | inl h ↦ no_element q 0 h.0 (sym at_index ∙ h.1)
@@ -283,7 +283,7 @@ last_held profile read cs c old mid new makes one front d is text kinds now last
         (subst (λ es. AreWritten profile es (manner old) text between) (sym fronts) written) in
     let tree_is : all.at.good.tree ≡ e = one_tree all.at.good.tree e all.after all.at.good.spelled.0 (subst (Spells e) (sym text_is) spells.0) in
     let (ts, stands, changed) = one all.after now last all.at (subst (λ x. IsAfter profile x now last) (sym edits) is_after)
-        (subst₂ (λ (x : Doc) y. IsOnOneLine x.lines y) (sym tree_is) (sym edits) there) in (
+        (subst₂ (λ (x : Doc) y. IsHeldOrUndotted x.lines y) (sym tree_is) (sym edits) there) in (
       ts,
       subst (λ t. Stands t read new.slots.items ts) (ap (λ (s : Texts). text_of s.source) all.source.texts) stands,
       subst (λ l. ChangesLines l profile d (standing e.lines) ts) (ap (λ (s : Texts). s.layout) all.source.texts)
@@ -324,17 +324,17 @@ more_passed profile read cs near part i c old tree so_far lead makes here one k 
 -- the fault with which they end
 pub stops_at : (profile : Profile) (read : Read) (places : Places) (cs : List Change) (near part : Kinds) (i : ℕ) (c : Change) (old tree : Tree)
     (fault : EditorFault) → PassesAll profile read cs near i old → MakesAll profile read (take i cs) old tree → slice_get cs i ≡ Some c
-    → TellsOne profile places i c part fault → OfNoPlaceAt (λ at. LacksPlaceOn profile read c tree) fault → Stops profile read cs near old fault
+    → TellsOne profile places i c part fault → OfNoPlaceAt (λ at. IsNeitherOn profile read c tree) fault → Stops profile read cs near old fault
 stops_at profile read places cs near part i c old tree fault so_far makes here tells not = by fault tells not
   where
     passed : (j : ℕ) → j ≡ i → PassesAll profile read cs near j old
     passed j is = subst (λ n. PassesAll profile read cs near n old) (sym is) so_far
 
-    not_at : (j : ℕ) → j ≡ i → LacksPlaceOn profile read c tree → LacksPlaceAt profile read cs j old
-    not_at j is one = subst (λ n. LacksPlaceAt profile read cs n old) (sym is)
-        (of_plain_made profile read cs i c old tree (λ d text kinds. ¬ HasOnePlace profile text d) makes here one)
+    not_at : (j : ℕ) → j ≡ i → IsNeitherOn profile read c tree → IsNeitherAt profile read cs j old
+    not_at j is one = subst (λ n. IsNeitherAt profile read cs n old) (sym is)
+        (of_plain_made profile read cs i c old tree (λ d text kinds. ¬ IsPlainOrHeld profile text d) makes here one)
 
-    by : (f : EditorFault) → TellsOne profile places i c part f → OfNoPlaceAt (λ at. LacksPlaceOn profile read c tree) f → Stops profile read cs near old f
+    by : (f : EditorFault) → TellsOne profile places i c part f → OfNoPlaceAt (λ at. IsNeitherOn profile read c tree) f → Stops profile read cs near old f
     by (faults.Edit j x) h one = record { passed = passed j h.0; spread = tt }
     by (faults.Spread j) h one = record { passed = passed j h.0; spread = not_at j h.0 one }
     by (faults.LastElement j) h one = record { passed = passed j h.0; spread = not_at j h.0 one }

@@ -4,7 +4,7 @@ use Rattle.toml_tree.proofs.Proved.{one_value}
 use Rattle.toml_tree.specs.Tree.{Value}
 use Rattle.toml_edits.specs.Edits.{insert, new_element, new_section, remove, rename, set}
 use Rattle.toml_layout.specs.TreeOutlines.{value_outline}
-use Rattle.toml_working.proofs.Proved.{held_is_no_line, put_lines_are_one, taken_lines_are_one}
+use Rattle.toml_working.proofs.Proved.{held_is_no_line, put_lines_are_one, taken_lines_are_one, undotted_is_pair}
 use Rattle.toml_editor.specs.LastTexts.{OneChange}
 
 pub one_change : OneChange
@@ -14,8 +14,8 @@ one_change layout profile (insert p text) old now new ordered h g =
     (h.outlined ∙ ap value_outline same ∙ sym g.outlined) h.put g.put
 one_change layout profile (remove p) old now new ordered (inl h) (inl g) = taken_lines_are_one layout p old now new ordered h.1 g.1
 one_change layout profile (remove p) old now new ordered (inr h) (inr g) = h.1 ∙ sym g.1
-one_change layout profile (remove p) old now new ordered (inl h) (inr g) = absurd (held_is_no_line p old ordered h.0 g.0)
-one_change layout profile (remove p) old now new ordered (inr h) (inl g) = absurd (held_is_no_line p old ordered g.0 h.0)
+one_change layout profile (remove p) old now new ordered (inl h) (inr g) = absurd (held_is_no_line p old ordered h.0 (undotted_is_pair p old g.0))
+one_change layout profile (remove p) old now new ordered (inr h) (inl g) = absurd (held_is_no_line p old ordered g.0 (undotted_is_pair p old h.0))
 one_change layout profile (set p text) old now new ordered h g = absurd h
 one_change layout profile (rename p to) old now new ordered h g = absurd h
 one_change layout profile (new_section p) old now new ordered h g = absurd h

@@ -24,11 +24,11 @@ use Rattle.toml_editor.specs.declared.fault.EditorFault.{EditorFault}
 use Rattle.toml_editor.specs.declared.fault.EditorFault.TheVariants as faults
 use Rattle.toml_working.specs.declared.working.Tree.{Tree}
 use Rattle.toml_editor.specs.CertifiedLists.{ArePlain}
-use Rattle.toml_editor.specs.Exact.{IsAt, LacksPlaceAt, IsSpreadOn, OfNumber, OfPlain, OfNoPlaceAt, PassesAll, PassesAt, Stops}
+use Rattle.toml_editor.specs.Exact.{IsAt, IsNeitherAt, IsSpreadOn, OfNumber, OfPlain, OfNoPlaceAt, PassesAll, PassesAt, Stops}
 use Rattle.toml_layout.specs.declared.layout.Layout.{Layout}
 use Rattle.toml_working.specs.Manners.{Manner}
 use Rattle.toml_working.specs.Putting.{manner}
-use Rattle.toml_editor.specs.PlainTexts.{AfterPlain, HasOnePlace, IsSpreadSet, LacksPlace, NoSpreadSet}
+use Rattle.toml_editor.specs.PlainTexts.{AfterPlain, IsPlainOrHeld, IsSpreadSet, IsNeitherPlainNorHeld, NoSpreadSet}
 use Rattle.toml_working.specs.Standing.{Read, standing}
 use Rattle.toml_working.specs.Stands.{Stands}
 use Rattle.toml_working.specs.Starting.{NoneIsGone}
@@ -76,28 +76,28 @@ module _ (profile : Profile) (read : Read) (d : Doc) (before : List ℕ) (tree :
       (subst (λ s. ArePlain profile (take k cs) s before) (sym mannered) plain) between
       (subst (λ s. AreWritten profile (take k cs) s before between) (sym mannered) written)
 
-  -- ---- an edit that has no one place
+  -- ---- an edit that is neither plain nor held
 
-  pub lacks_place : (cs : List Change) (j : ℕ) → LacksPlaceAt profile read cs j tree
-      → LacksPlace layout profile before cs j
-  lacks_place cs j not = (
+  pub neither_edit : (cs : List Change) (j : ℕ) → IsNeitherAt profile read cs j tree
+      → IsNeitherPlainNorHeld layout profile before cs j
+  neither_edit cs j not = (
     d,
     spelled,
     (λ c is old mid now facts lead none is_after plain between written.
-        after_plain cs j (λ c text kinds. ¬ HasOnePlace profile text c) not c is old mid now facts lead none is_after plain between written),
+        after_plain cs j (λ c text kinds. ¬ IsPlainOrHeld profile text c) not c is old mid now facts lead none is_after plain between written),
   )
 
-  pub lacks_place_of : (cs : List Change) (fault : EditorFault) → OfNoPlaceAt (λ j. LacksPlaceAt profile read cs j tree) fault
-      → OfNoPlaceAt (LacksPlace layout profile before cs) fault
-  lacks_place_of cs (faults.Spread j) not = lacks_place cs j not
-  lacks_place_of cs (faults.LastElement j) not = lacks_place cs j not
-  lacks_place_of cs (faults.Text f) not = tt
-  lacks_place_of cs (faults.Syntax f) not = tt
-  lacks_place_of cs (faults.Names f) not = tt
-  lacks_place_of cs (faults.Edit i f) not = tt
-  lacks_place_of cs faults.TooLong not = tt
-  lacks_place_of cs (faults.Unverified r) not = tt
-  lacks_place_of cs faults.NoMemory not = tt
+  pub neither_edit_of : (cs : List Change) (fault : EditorFault) → OfNoPlaceAt (λ j. IsNeitherAt profile read cs j tree) fault
+      → OfNoPlaceAt (IsNeitherPlainNorHeld layout profile before cs) fault
+  neither_edit_of cs (faults.Spread j) not = neither_edit cs j not
+  neither_edit_of cs (faults.LastElement j) not = neither_edit cs j not
+  neither_edit_of cs (faults.Text f) not = tt
+  neither_edit_of cs (faults.Syntax f) not = tt
+  neither_edit_of cs (faults.Names f) not = tt
+  neither_edit_of cs (faults.Edit i f) not = tt
+  neither_edit_of cs faults.TooLong not = tt
+  neither_edit_of cs (faults.Unverified r) not = tt
+  neither_edit_of cs faults.NoMemory not = tt
 
   -- ---- edits that set nothing that is spread
 
@@ -130,5 +130,5 @@ module _ (profile : Profile) (read : Read) (d : Doc) (before : List ℕ) (tree :
 
     -- both, of the fault with which the edits end
     pub stops_told : (fault : EditorFault) → Stops profile read cs part tree fault
-        → OfNumber (NoSpreadSet layout profile before cs) fault × OfNoPlaceAt (LacksPlace layout profile before cs) fault
-    stops_told fault stops = (no_spread_set_of fault stops.passed, lacks_place_of cs fault stops.spread)
+        → OfNumber (NoSpreadSet layout profile before cs) fault × OfNoPlaceAt (IsNeitherPlainNorHeld layout profile before cs) fault
+    stops_told fault stops = (no_spread_set_of fault stops.passed, neither_edit_of cs fault stops.spread)

@@ -24,7 +24,7 @@ use Rattle.toml_checker.specs.Documents.{OfTree, OfData, AreDefined}
 use Rattle.toml_editor.specs.CertifiedLists.{ArePlain}
 use Rattle.toml_editor.specs.Edited.{MayBeSpread, OfDefined, OnDataSoFar, SoFar, TellsWith, TakesLastElement}
 use Rattle.toml_editor.specs.PlainAnswers.{FirstFaultIsAnswered, FirstSpreadIsAnswered, IsAnswer, IsFaultOrMemory, LongIsAnswered, PlainIsAnswered, PlainSoFar}
-use Rattle.toml_editor.specs.PlainTexts.{AfterPlain, HasOnePlace, IsNoPlainList, IsPlainOn, LacksPlace, IsSpreadSet, NoSpreadSet, WritesPlain}
+use Rattle.toml_editor.specs.PlainTexts.{AfterPlain, IsPlainOrHeld, IsNoPlainList, IsPlainOn, IsNeitherPlainNorHeld, IsSpreadSet, NoSpreadSet, WritesPlain}
 use Rattle.toml_editor.specs.Steps.{AreWritten}
 use Rattle.toml_layout.specs.declared.layout.Layout.{Layout}
 use Rattle.toml_working.specs.Written.{manner_of}
@@ -135,11 +135,11 @@ module _ (layout : Layout) (profile : Profile) (before : List ℕ) (cs : List Ch
       let (fault, h) = faulty c mid holds in
       no_fault profile cs n j so_far.old now mid c fault so_far.lead low lead is h
 
-  no_spread_before : (j : ℕ) (c : Change) → slice_get cs j ≡ Some c → j < n → LacksPlace layout profile before cs j → ⊥
-  no_spread_before j c is low lacks =
+  no_spread_before : (j : ℕ) (c : Change) → slice_get cs j ≡ Some c → j < n → IsNeitherPlainNorHeld layout profile before cs j → ⊥
+  no_spread_before j c is low neither =
       let at = defined_at profile cs n j so_far.old now c so_far.lead low is in
       let text = plain_at profile cs n j manner before after c so_far.plain so_far.written low is in
-      of_tree (λ x. AfterPlain layout profile before cs x j (λ c text. ¬ HasOnePlace profile text c)) lacks c is so_far.old at.mid at.next so_far.facts at.lead at.none
+      of_tree (λ x. AfterPlain layout profile before cs x j (λ c text. ¬ IsPlainOrHeld profile text c)) neither c is so_far.old at.mid at.next so_far.facts at.lead at.none
       at.is_after text.plain text.between text.written (λ e spells. inl (text.here e spells))
 
 -- what stands of an edit of a list

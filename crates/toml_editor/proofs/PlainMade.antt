@@ -16,7 +16,7 @@ use Rattle.toml_edits.specs.Lists.{Lead}
 use Rattle.toml_layout.specs.declared.texts.Texts.{Texts}
 use Rattle.toml_working.specs.declared.working.Tree.{Tree}
 use Rattle.toml_editor.specs.CertifiedLists.{ArePlain}
-use Rattle.toml_editor.specs.LastTexts.{ChangesLines, IsOnOneLine, WritesLast, standing_text}
+use Rattle.toml_editor.specs.LastTexts.{ChangesLines, IsHeldOrUndotted, WritesLast, standing_text}
 use Rattle.toml_editor.specs.Exact.{FollowAll, HoldsLast, IsAt, MakesAll}
 use Rattle.toml_layout.specs.declared.layout.Layout.{Layout}
 use Rattle.toml_working.specs.Manners.{Manner}
@@ -72,13 +72,13 @@ module _ (profile : Profile) (read : Read) (d : Doc) (before : List ℕ) (tree :
         lines_are_written before d.mark.text read new.slots.items last.lines out writes there
         ∙ ap (λ (m : Piece). m.text ++ joined (lines_parts last.lines)) mark ∙ text_is_spelled last all.after all.at.good.spelled.0
 
-    -- where the last edit is one inside the value of a line, and those before it are plain, it is the text of what that makes of the lines
-    pub held_written : HoldsLast profile read cs tree new → WritesOut before d.mark.text new.slots.items out → WritesLast layout profile before cs out
-    held_written holds writes = (d, spelled, by)
+    -- where the last edit is of those of which it is told, and those before it are plain, it is the text of what that makes of the lines
+    pub last_written : HoldsLast profile read cs tree new → WritesOut before d.mark.text new.slots.items out → WritesLast layout profile before cs out
+    last_written holds writes = (d, spelled, by)
       where
         by : (front : List Change) (c : Change) → cs ≡ front ++ c ∷ [] → ArePlain profile front (manner_of layout d.lines) before
             → (between : List ℕ) → AreWritten profile front (manner_of layout d.lines) before between
-            → (e : Doc) → SpellsIn profile e between → IsOnOneLine e.lines c
+            → (e : Doc) → SpellsIn profile e between → IsHeldOrUndotted e.lines c
             → (ts : List Standing) × ChangesLines layout profile c (standing e.lines) ts × (out ≡ e.mark.text ++ standing_text ts)
         by front c is plain between written e spells there =
             let first = at old facts in

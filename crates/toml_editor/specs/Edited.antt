@@ -22,7 +22,7 @@ use Rattle.toml_checker.specs.Findings.{IsFirstUnmet}
 use Rattle.toml_checker.specs.Outer.{IsOuter}
 use Rattle.toml_checker.specs.Pairs.{IsFirst}
 use Rattle.toml_editor.specs.LastTexts.{WritesLast}
-use Rattle.toml_editor.specs.PlainTexts.{IsNoPlainList, LacksPlace, NoSpreadSet, WritesPlain}
+use Rattle.toml_editor.specs.PlainTexts.{IsNoPlainList, IsNeitherPlainNorHeld, NoSpreadSet, WritesPlain}
 use Rattle.toml_working.specs.InValues.{Places, IsElementInValue, IsRightInValue}
 use Rattle.toml_working.specs.Tidy.{ArePieces}
 use Rattle.toml_layout.specs.declared.layout.Layout.{Layout}
@@ -35,15 +35,16 @@ abbrev pub NamesOuter : List ℕ → List Change → List (ℕ × ℕ) → Type 
 NamesOuter before cs ps = OfTree before (λ d. (i : ℕ) → IsFirst ps i ↔ IsOuter cs (units d.lines) i)
 
 -- The text is certified to be what the edits make of the first one, by pairs that name the outer protected units. Of plain edits it is
--- the one that they write in the layout, and none of the edits, where those before it are plain, sets what is spread. Of a last edit inside
--- the value of a line it is told what is written.
+-- the one that they write in the layout, and none of the edits, where those before it are plain, sets what is spread. Of a last edit behind
+-- plain ones, which changes an array or an inline table in the value of a line or takes out a line whose key is not dotted, it is told what
+-- is written.
 pub record IsEditedWith (layout : Layout) (profile : Profile) (before : List ℕ) (cs : List Change) (after : List ℕ) (ps : List (ℕ × ℕ)) : Type 0
   where
     pub certified : Certified profile before cs after ps
     pub outer : NamesOuter before cs ps
     pub plain : WritesPlain layout profile before cs after
     pub passed : NoSpreadSet layout profile before cs (length cs)
-    pub held : WritesLast layout profile before cs after
+    pub last : WritesLast layout profile before cs after
 
 -- in layout `Plain`
 abbrev pub IsEdited : Profile → List ℕ → List Change → List ℕ → List (ℕ × ℕ) → Type 0
@@ -95,8 +96,8 @@ abbrev pub AreDefinedOn : Profile → List ℕ → List Change → Type 0
 AreDefinedOn profile before cs = IsDocumentIn profile before × OfData before (AreDefined profile cs)
 
 -- What a fault of the editor tells in a layout. Of an edit: that the text is a document, and the fault is the edit's on the data so far. That its
--- place is spread, or that it takes a last element: that it is defined on these data, and if those before it are plain the text has no one
--- place for it: it is not plain, and no array and no inline table in the value of a line holds what it puts in or takes out. That the result
+-- place is spread, or that it takes a last element: that it is defined on these data, and if those before it are plain, it is not plain, and
+-- no array and no inline table in the value of a line holds what it puts in or takes out. That the result
 -- is too long: all edits are defined, and where they are plain, what they write is too long. That the judge refuses it: all edits are
 -- defined, the list is not one of plain edits, and the reason is the first demand that no certificate meets of some text. That this is the
 -- text which was made says `certify` alone: here `AfterRefused` can always be told, by the text `=`. And each time that no edit before, or
@@ -108,10 +109,10 @@ TellsWith layout profile before cs (Edit index fault) =
 TellsWith layout profile before cs (Spread index) =
     IsDocumentIn profile before
     × OfTree before (λ d. OnDataSoFar profile before cs index (OfDefined profile (MayBeSpread (place (named d.lines)) index)))
-    × LacksPlace layout profile before cs index × NoSpreadSet layout profile before cs index
+    × IsNeitherPlainNorHeld layout profile before cs index × NoSpreadSet layout profile before cs index
 TellsWith layout profile before cs (LastElement index) =
     IsDocumentIn profile before × OnDataSoFar profile before cs index (OfDefined profile TakesLastElement)
-    × LacksPlace layout profile before cs index × NoSpreadSet layout profile before cs index
+    × IsNeitherPlainNorHeld layout profile before cs index × NoSpreadSet layout profile before cs index
 TellsWith layout profile before cs TooLong =
     AreDefinedOn profile before cs × ((after : List ℕ) × WritesPlain layout profile before cs after × (max_len < length after))
     × NoSpreadSet layout profile before cs (length cs)

@@ -36,7 +36,7 @@ pub record IsMadeText (layout : Layout) (profile : Profile) (before : List ℕ) 
   pub are_defined : AreDefinedOn profile before cs
   pub plain : WritesPlain layout profile before cs after
   pub passed : NoSpreadSet layout profile before cs (length cs)
-  pub held : WritesLast layout profile before cs after
+  pub last : WritesLast layout profile before cs after
   pub pieces : ArePieces before after list
 
 -- the same of what the code hands on: its text, and its pieces

@@ -23,12 +23,12 @@ use Rattle.toml_editor.specs.declared.fault.EditorFault.TheVariants.{Edit, LastE
 use Rattle.toml_working.specs.declared.working.Tree.{Tree}
 use Rattle.toml_working.specs.Becoming.{TreeRenames}
 use Rattle.toml_editor.specs.CertifiedLists.{ArePlain}
-use Rattle.toml_editor.specs.LastTexts.{ChangesLines, IsOnOneLine}
+use Rattle.toml_editor.specs.LastTexts.{ChangesLines, IsHeldOrUndotted}
 use Rattle.toml_layout.specs.declared.tree.Value.{Value as OpenValue}
 use Rattle.toml_layout.specs.Holding.{PutsHeld}
 use Rattle.toml_layout.specs.OpenOutlines.{leaf_text, value as open_outline}
 use Rattle.toml_working.specs.HeldLines.{HoldsLines, TakesFromValue}
-use Rattle.toml_editor.specs.PlainTexts.{HasOnePlace, IsPlainOn, IsSpreadSet}
+use Rattle.toml_editor.specs.PlainTexts.{IsPlainOrHeld, IsPlainOn, IsSpreadSet}
 use Rattle.toml_working.specs.Putting.{TreeInserts, manner}
 use Rattle.toml_working.specs.RemovingIn.{RemovesLines}
 use Rattle.toml_editor.specs.SpelledEdits.{AreSteps}
@@ -99,8 +99,8 @@ pub record WritesRename (read : Read) (p : Address) (to : List ℕ) (old new : T
   pub whole : NoneIsGone new.elements
 
 -- What an edit makes of the working tree, where no element is gone: a `set` puts the value in, if one stands there, and tells whether;
--- an `insert` of a name at the root puts its line in, a `remove` there takes out the line of the value, a `rename` gives lines the new
--- name. Where an array or an inline table in the value of a line holds it, an `insert` and a `remove` change that.
+-- an `insert` of a name at the root puts its line in, a `remove` takes out the line of a value whose key is not dotted, a `rename` gives
+-- lines the new name. Where an array or an inline table in the value of a line holds it, an `insert` and a `remove` change that.
 abbrev pub WritesEdit : Profile → Read → Change → Tree → Tree → Bool → Type 0
 WritesEdit profile read (set p text) old new done = NoneIsGone old.elements → KeepsRest old new × WritesSet profile read p text old new done
 WritesEdit profile read (insert p text) old new done = NoneIsGone old.elements
@@ -110,10 +110,10 @@ WritesEdit profile read (remove p) old new done = NoneIsGone old.elements → Re
 WritesEdit profile read (rename p to) old new done = NoneIsGone old.elements → WritesRename read p to old new
 WritesEdit profile read _ old new done = Unit {0}
 
--- the tree stands for no text that has one place for the edit, where that has no fault
-abbrev pub LacksPlaceOn : Profile → Read → Change → Tree → Type 0
-LacksPlaceOn profile read c tree = (text : List ℕ) (kinds now : Kinds) → IsAt profile read tree text kinds
-    → IsFault profile c kinds None → IsAfter profile c kinds now → ¬ HasOnePlace profile text c
+-- the tree stands for no text on which the edit, without a fault, is plain, or held by an array or an inline table in a value
+abbrev pub IsNeitherOn : Profile → Read → Change → Tree → Type 0
+IsNeitherOn profile read c tree = (text : List ℕ) (kinds now : Kinds) → IsAt profile read tree text kinds
+    → IsFault profile c kinds None → IsAfter profile c kinds now → ¬ IsPlainOrHeld profile text c
 
 -- it sets what is a table or an array
 abbrev pub SetsMany : Change → Kinds → Type 0
@@ -147,10 +147,11 @@ PassesAt profile read cs near tree k = (part : Kinds) × Lead profile (take k cs
 abbrev pub PassesAll : Profile → Read → List Change → Kinds → ℕ → Tree → Type 0
 PassesAll profile read cs near n tree = (k : ℕ) → k < n → PassesAt profile read cs near tree k
 
--- of an edit that changes an array or an inline table in the value of a line: the tree then stands for what it makes of the lines
+-- of an edit that changes an array or an inline table in the value of a line, or takes out a line whose key is not dotted: the tree then
+-- stands for what it makes of the lines
 abbrev pub HoldsOne : Profile → Read → Change → Tree → Tree → Type 0
 HoldsOne profile read c old new = (text : List ℕ) (kinds now : Kinds) → (at : IsAt profile read old text kinds) → IsAfter profile c kinds now
-    → IsOnOneLine at.good.tree.lines c
+    → IsHeldOrUndotted at.good.tree.lines c
     → (ts : List Standing) × Stands (text_of old.texts.source) read new.slots.items ts
     × ChangesLines old.texts.layout profile c (standing at.good.tree.lines) ts
 
@@ -158,7 +159,7 @@ HoldsOne profile read c old new = (text : List ℕ) (kinds now : Kinds) → (at 
 abbrev pub HoldsLast : Profile → Read → List Change → Tree → Tree → Type 0
 HoldsLast profile read cs old new = (front : List Change) (c : Change) → cs ≡ front ++ c ∷ [] → (text : List ℕ) (kinds mid now : Kinds)
     → IsAt profile read old text kinds → Lead profile front kinds mid → IsAfter profile c mid now → ArePlain profile front (manner old) text
-    → (between : List ℕ) → AreWritten profile front (manner old) text between → (e : Doc) → SpellsIn profile e between → IsOnOneLine e.lines c
+    → (between : List ℕ) → AreWritten profile front (manner old) text between → (e : Doc) → SpellsIn profile e between → IsHeldOrUndotted e.lines c
     → (ts : List Standing) × Stands (text_of old.texts.source) read new.slots.items ts
     × ChangesLines old.texts.layout profile c (standing e.lines) ts
 
@@ -180,9 +181,9 @@ pub record DoneAll (profile : Profile) (read : Read) (near : Kinds) (cs : List C
   pub holds : HoldsLast profile read cs old new
   pub passes : PassesAll profile read cs near (length cs) old
 
--- the edit with this number, where those before it are plain, has no one place in the text that they write
-abbrev pub LacksPlaceAt : Profile → Read → List Change → ℕ → Tree → Type 0
-LacksPlaceAt profile read cs j tree = OfPlain profile read cs tree j (λ c text kinds. ¬ HasOnePlace profile text c)
+-- the edit with this number, where those before it are plain, is neither of these on the text that they write
+abbrev pub IsNeitherAt : Profile → Read → List Change → ℕ → Tree → Type 0
+IsNeitherAt profile read cs j tree = OfPlain profile read cs tree j (λ c text kinds. ¬ IsPlainOrHeld profile text c)
 
 -- this holds of the number of the edit that has the fault, if it is one of an edit
 abbrev pub OfNumber : (ℕ → Type 0) → EditorFault → Type 0
@@ -197,8 +198,8 @@ OfNoPlaceAt P (Spread i) = P i
 OfNoPlaceAt P (LastElement i) = P i
 OfNoPlaceAt P _ = Unit {0}
 
--- no edit before the one with the fault sets what is spread, and that one has no one place, if it is told to be spread or to take a last
--- element
+-- no edit before the one with the fault sets what is spread, and that one is neither plain nor held, if it is told to be spread or to take a
+-- last element
 pub record Stops (profile : Profile) (read : Read) (cs : List Change) (near : Kinds) (tree : Tree) (fault : EditorFault) : Type 0 where
   pub passed : OfNumber (λ n. PassesAll profile read cs near n tree) fault
-  pub spread : OfNoPlaceAt (λ j. LacksPlaceAt profile read cs j tree) fault
+  pub spread : OfNoPlaceAt (λ j. IsNeitherAt profile read cs j tree) fault

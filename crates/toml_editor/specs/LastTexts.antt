@@ -1,4 +1,5 @@
--- What is written where the last edit changes an array or an inline table in the value of a line, or takes out a line.
+-- What is written where, behind plain edits, the last one changes an array or an inline table in the value of a line, or takes out a line
+-- whose key is not dotted.
 use Rattle.std.specs.Prelude.{◌≡◌, ◌⊎◌, true, ℕ, List, [], ◌∷◌, ◌++◌, map}
 use Rattle.std.specs.List.{list_any}
 use Rattle.std.specs.declared.alloc.Global.{Global}
@@ -17,7 +18,7 @@ use Rattle.toml_layout.specs.Holding.{ChangesHolder, PutsHeld, TakesHeld}
 use Rattle.toml_layout.specs.OpenOutlines.{value}
 use Rattle.toml_layout.specs.Outlines.{lines_outlined}
 use Rattle.toml_layout.specs.TreeOutlines.{value_outline}
-use Rattle.toml_working.specs.HeldLines.{SetsEach, has_holder_at}
+use Rattle.toml_working.specs.HeldLines.{SetsEach, has_container_at}
 use Rattle.toml_working.specs.RemoveStanding.{is_undotted_pair, remove_standing}
 use Rattle.toml_working.specs.Standing.{AreOrdered, Standing, holds, standing}
 use Rattle.toml_working.specs.Written.{manner_of}
@@ -37,51 +38,53 @@ pub record PutsValue (layout : Layout) (profile : Profile) (p : Address) (text :
 
 -- the array or the inline table that holds what stands at the address loses it, by the rules of the layout, and nothing else has changed
 abbrev pub TakesValue : Layout → Address → List Standing → List Standing → Type 0
-TakesValue layout p old now = (list_any (has_holder_at p) old ≡ true) × ChangesHolder SetsEach (TakesHeld layout) p old now
+TakesValue layout p old now = (list_any (has_container_at p) old ≡ true) × ChangesHolder SetsEach (TakesHeld layout) p old now
 
 -- the line goes on which a key that is not dotted has the value at the address
-abbrev pub TakesLine : Address → List Standing → List Standing → Type 0
-TakesLine p old now = (list_any (is_undotted_pair p) old ≡ true) × (now ≡ remove_standing p old)
+abbrev pub LosesLine : Address → List Standing → List Standing → Type 0
+LosesLine p old now = (list_any (is_undotted_pair p) old ≡ true) × (now ≡ remove_standing p old)
 
 -- what the edit makes of lines
 abbrev pub ChangesLines : Layout → Profile → Change → List Standing → List Standing → Type 0
 ChangesLines layout profile (insert p text) old now = PutsValue layout profile p text old now
-ChangesLines layout profile (remove p) old now = TakesValue layout p old now ⊎ TakesLine p old now
+ChangesLines layout profile (remove p) old now = TakesValue layout p old now ⊎ LosesLine p old now
 ChangesLines layout profile _ old now = ⊥
 
--- Law: of lines as the table rules have them it makes one thing.
+-- Law: what such an edit makes of lines that are as the table rules have them is one thing.
 abbrev pub OneChange : Type 0
 OneChange = (layout : Layout) (profile : Profile) (c : Change) (old now new : List Standing) → AreOrdered old
     → ChangesLines layout profile c old now → ChangesLines layout profile c old new → now ≡ new
 
 -- an array or an inline table in the value of a line holds what stands at the address, or would hold it
-abbrev pub HasHolderAt : List Line → Address → Type 0
-HasHolderAt lines p = list_any (has_holder_at p) (standing lines) ≡ true
+abbrev pub HasContainerAt : List Line → Address → Type 0
+HasContainerAt lines p = list_any (has_container_at p) (standing lines) ≡ true
 
--- so it is of a name to be put in there; and the array for an element is the value of a line, or stands in one
+-- An array or an inline table holds what is to be put in below the address; of an element that its array is the value of a line, or stands in
+-- one, is enough, since an `insert` of one that is not made is refused.
 abbrev pub IsPutThere : List Line → Address → Step → Type 0
-IsPutThere lines q (Name name) = HasHolderAt lines (child q name)
+IsPutThere lines q (Name name) = HasContainerAt lines (child q name)
 IsPutThere lines q (Index i) = list_any (holds q) (standing lines) ≡ true
 
 -- a line has the value at the address, by a key that is not dotted
 abbrev pub HasLineAt : List Line → Address → Type 0
 HasLineAt lines p = list_any (is_undotted_pair p) (standing lines) ≡ true
 
--- the edit puts an element or a pair into an array or an inline table in the value of a line, or takes out one, or such a line
-abbrev pub IsOnOneLine : List Line → Change → Type 0
-IsOnOneLine lines (insert p text) = (q : Address) × (last : Step) × (p ≡ q ++ last ∷ []) × (¬ (q ≡ [])) × IsPutThere lines q last
-IsOnOneLine lines (remove p) = HasHolderAt lines p ⊎ HasLineAt lines p
-IsOnOneLine lines _ = ⊥
+-- the edit puts an element or a pair into an array or an inline table in the value of a line, takes one out, or takes out a line whose key
+-- is not dotted
+abbrev pub IsHeldOrUndotted : List Line → Change → Type 0
+IsHeldOrUndotted lines (insert p text) = (q : Address) × (last : Step) × (p ≡ q ++ last ∷ []) × (¬ (q ≡ [])) × IsPutThere lines q last
+IsHeldOrUndotted lines (remove p) = HasContainerAt lines p ⊎ HasLineAt lines p
+IsHeldOrUndotted lines _ = ⊥
 
 -- the text of what stands on lines
 abbrev pub standing_text : List Standing → List ℕ
 standing_text ss = lines_outlined (map (λ (s : Standing). s.outline) ss)
 
--- Where the edits before the last one are plain, and the last one is such an edit on the text that they write, the text is the mark and what
--- the edit makes of the lines.
+-- Where the edits before the last one are plain, and the last one does so on the text that they write, the text is the mark and what the
+-- edit makes of the lines.
 abbrev pub WritesLast : Layout → Profile → List ℕ → List Change → List ℕ → Type 0
 WritesLast layout profile before cs after = OfTree before (λ d. (front : List Change) (c : Change) → cs ≡ front ++ c ∷ []
     → ArePlain profile front (manner_of layout d.lines) before
     → (between : List ℕ) → AreWritten profile front (manner_of layout d.lines) before between
-    → (e : Doc) → SpellsIn profile e between → IsOnOneLine e.lines c
+    → (e : Doc) → SpellsIn profile e between → IsHeldOrUndotted e.lines c
     → (now : List Standing) × ChangesLines layout profile c (standing e.lines) now × (after ≡ e.mark.text ++ standing_text now))

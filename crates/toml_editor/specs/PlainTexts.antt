@@ -13,7 +13,7 @@ use Rattle.toml_edits.specs.Edits.{Change, insert, remove, set}
 use Rattle.toml_edits.specs.Faults.{IsFault}
 use Rattle.toml_edits.specs.Lists.{Lead}
 use Rattle.toml_editor.specs.CertifiedLists.{ArePlain}
-use Rattle.toml_editor.specs.LastTexts.{HasHolderAt}
+use Rattle.toml_editor.specs.LastTexts.{HasContainerAt}
 use Rattle.toml_editor.specs.Steps.{AreWritten, IsPlain}
 use Rattle.toml_layout.specs.declared.layout.Layout.{Layout}
 use Rattle.toml_working.specs.Written.{HasValue, manner_of}
@@ -50,16 +50,16 @@ abbrev pub NoSpreadSet : Layout → Profile → List ℕ → List Change → ℕ
 NoSpreadSet layout profile before cs n =
     OfTree before (λ d. (k : ℕ) → k < n → AfterPlain layout profile before cs d k (λ c text. ¬ IsSpreadSet profile text c))
 
--- an array or an inline table in the value of a line holds what the edit puts in or takes out
-abbrev pub HasHolderFor : List Line → Change → Type 0
-HasHolderFor lines (insert p value) = (q : Address) × (last : Step) × (p ≡ q ++ last ∷ []) × (¬ (q ≡ [])) × HasHolderAt lines p
-HasHolderFor lines (remove p) = HasHolderAt lines p
-HasHolderFor lines _ = ⊥
+-- an array or an inline table in the value of a line holds what the edit puts in or takes out; what is put in at the root is in none
+abbrev pub HasContainerFor : List Line → Change → Type 0
+HasContainerFor lines (insert p value) = (q : Address) × (last : Step) × (p ≡ q ++ last ∷ []) × (¬ (q ≡ [])) × HasContainerAt lines p
+HasContainerFor lines (remove p) = HasContainerAt lines p
+HasContainerFor lines _ = ⊥
 
--- the text has one place for the edit: it is plain on its lines, or such an edit
-abbrev pub HasOnePlace : Profile → List ℕ → Change → Type 0
-HasOnePlace profile text c = (d : Doc) → SpellsIn profile d text → IsPlain d.lines c ⊎ HasHolderFor d.lines c
+-- on the lines of the text the edit is plain, or an array or an inline table holds what it puts in or takes out
+abbrev pub IsPlainOrHeld : Profile → List ℕ → Change → Type 0
+IsPlainOrHeld profile text c = (d : Doc) → SpellsIn profile d text → IsPlain d.lines c ⊎ HasContainerFor d.lines c
 
--- the edit with this number, where those before it are plain, has no one place in the text that they write
-abbrev pub LacksPlace : Layout → Profile → List ℕ → List Change → ℕ → Type 0
-LacksPlace layout profile before cs j = OfTree before (λ d. AfterPlain layout profile before cs d j (λ c text. ¬ HasOnePlace profile text c))
+-- the edit with this number, where those before it are plain, is neither of these on the text that they write
+abbrev pub IsNeitherPlainNorHeld : Layout → Profile → List ℕ → List Change → ℕ → Type 0
+IsNeitherPlainNorHeld layout profile before cs j = OfTree before (λ d. AfterPlain layout profile before cs d j (λ c text. ¬ IsPlainOrHeld profile text c))

@@ -58,7 +58,7 @@ abbrev pub InsertStands : Type 0
 InsertStands = (name : List ℕ) (new : Value) (manner : Manner) (lines : List Line) → AreLines lines
     → standing (insert_lines name new manner lines) ≡ insert_standing name (value_outline new) manner (standing lines)
 
--- Laws: the value of a name at the root stands on one of the lines, if a key has it, and that key is not dotted,
+-- Laws: the value of a name at the root stands on one of the lines, if a key has it, whose key is then not dotted,
 abbrev pub PairStands : Type 0
 PairStands = (name : List ℕ) (lines : List Line) → HasPair lines (Name name ∷ []) → KeepsRules (named lines)
     → list_any (is_undotted_pair (Name name ∷ [])) (standing lines) ≡ true

@@ -213,8 +213,8 @@ pub fn written_out()
     ensures text { TextIsWritten }
 {}
 
-/// What an edit inside the value of a line, or one that takes out a line, makes of lines that are as the table rules have them is one
-/// thing in a layout, and so it has one text.
+/// What an edit makes that changes an array or an inline table in the value of a line, or takes out a line whose key is not dotted, is one
+/// thing in a layout, of lines that are as the table rules have them: so it has one text.
 pub fn one_change()
     ensures { OneChange }
 {}

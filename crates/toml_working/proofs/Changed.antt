@@ -22,7 +22,7 @@ use Rattle.toml_layout.specs.ChangingIn.{ChangesIn}
 use Rattle.toml_layout.specs.SettingIn.{SetsIn}
 use Rattle.toml_layout.specs.Holding.{HolderChange, ChangesHolder, HoldsIn, PutsHeld, TakesHeld}
 use Rattle.toml_working.specs.Changing.{ChangesBody, ChangesOpen, RenamesOpen, SetsOpen, SetsThere, HoldsOpen, HoldsStanding, ChangesAs, ChangesStanding, ChangesLine, ChangesSlot, ChangesSlots}
-use Rattle.toml_working.specs.HeldLines.{expr_has_holder}
+use Rattle.toml_working.specs.HeldLines.{expr_has_container}
 use Rattle.toml_working.specs.OpeningLines.{OpensBody, IsOpened}
 use Rattle.toml_layout.specs.OpenOutlines.{line, value}
 use Rattle.toml_layout.specs.Outlines.{AssignOutline, ExprOutline, ValueOutline, LineOutline, Pair}
@@ -104,8 +104,8 @@ holder_below makes p (Some n) (Some a) old now h held =
 
 -- whether it is found, too
 told_below : (p : Address) (base : Option ℕ) (own : Option Address) (e : ExprOutline) → leads_to p base own ≡ true
-    → expr_has_holder e (drop (steps_to own) p) ≡ (leads_to p base own && expr_has_holder e (drop (steps_to own) p))
-told_below p base own e h = ap (λ b. b && expr_has_holder e (drop (steps_to own) p)) (sym h)
+    → expr_has_container e (drop (steps_to own) p) ≡ (leads_to p base own && expr_has_container e (drop (steps_to own) p))
+told_below p base own e h = ap (λ b. b && expr_has_container e (drop (steps_to own) p)) (sym h)
 
 holds_below : (makes : HolderChange) (p : Address) (base : Option ℕ) (own : Option Address) (old now old_open now_open : LineOutline) (done : Bool) → old ≡ old_open → now ≡ now_open
     → HoldsOpen (drop (steps_to own) p) makes old_open now_open done

@@ -20,7 +20,7 @@ use Rattle.toml_working.specs.declared.lines.Slot.{Slot}
 use Rattle.toml_working.specs.declared.working.Position.{Position}
 use Rattle.toml_working.specs.Changing.{ChangesAs, ChangesSlots, HoldsStanding, SetsThere}
 use Rattle.toml_working.specs.declared.lines.Sought.TheVariants as kinds
-use Rattle.toml_working.specs.HeldLines.{HeldIsInside, HoldsLines, ParentIsHeld, SetsEach, expr_has_holder, has_holder_at, holds_inside}
+use Rattle.toml_working.specs.HeldLines.{HeldIsInside, HoldsLines, ParentIsHeld, SetsEach, expr_has_container, has_container_at, holds_inside}
 use Rattle.toml_working.specs.Seeing.{HoldsNone, IsSoughtAt, line_at, steps_of, steps_to}
 use Rattle.toml_working.specs.Standing.{Standing, Read, AreOrdered, IsApart, StandAlone, holds, leads_to, slot_standing, slots_standing}
 use Rattle.toml_working.specs.Stands.{Stands}
@@ -39,20 +39,20 @@ each_is_set p new front s t back alone apart (here, sets) =
 
 -- of lines that stand alone one holds what stands at the address, so what is told of it is told of all
 held_on_one : (p : Address) (front : List Standing) (s : Standing) (back : List Standing) → holds p s ≡ true → StandAlone (front ++ s ∷ back)
-    → list_any (has_holder_at p) (front ++ s ∷ back) ≡ has_holder_at p s
+    → list_any (has_container_at p) (front ++ s ∷ back) ≡ has_container_at p s
 held_on_one p front s back here alone =
     let others = others_before p front s back here (pairs_of_all _ (front ++ s ∷ back) alone) in
-    list_any-append (has_holder_at p) front (s ∷ back)
-    ∙ ap₂ (λ a b. a || (has_holder_at p s || b)) (none_held p front others.0) (none_held p back others.1) ∙ or-false (has_holder_at p s)
+    list_any-append (has_container_at p) front (s ∷ back)
+    ∙ ap₂ (λ a b. a || (has_container_at p s || b)) (none_held p front others.0) (none_held p back others.1) ∙ or-false (has_container_at p s)
   where
-    none_held : (q : Address) (ts : List Standing) → list_any (holds q) ts ≡ false → list_any (has_holder_at q) ts ≡ false
+    none_held : (q : Address) (ts : List Standing) → list_any (holds q) ts ≡ false → list_any (has_container_at q) ts ≡ false
     none_held q [] none = refl
     none_held q (t ∷ ts) none = by (none_held q ts) (holds q t) refl none
       where
-        by : (list_any (holds q) ts ≡ false → list_any (has_holder_at q) ts ≡ false) → (b : Bool) → holds q t ≡ b → (b || list_any (holds q) ts) ≡ false
-            → list_any (has_holder_at q) (t ∷ ts) ≡ false
+        by : (list_any (holds q) ts ≡ false → list_any (has_container_at q) ts ≡ false) → (b : Bool) → holds q t ≡ b → (b || list_any (holds q) ts) ≡ false
+            → list_any (has_container_at q) (t ∷ ts) ≡ false
         by later true is h = absurd (true≢false h)
-        by later false is h = ap (λ b. (b && expr_has_holder t.outline.expr (drop (steps_to t.address) q)) || list_any (has_holder_at q) ts) is ∙ later h
+        by later false is h = ap (λ b. (b && expr_has_container t.outline.expr (drop (steps_to t.address) q)) || list_any (has_container_at q) ts) is ∙ later h
 
 -- one line holds what stands at the address, and is changed
 pub line_held : (p : Address) (change : Inside) (makes : HolderChange) (texts : Texts) (read : Read) (at : Position) (old now : List Slot) (done : Bool) (s : Standing)
@@ -84,7 +84,7 @@ line_held p change makes texts read at old now done s there here as_holder chang
         },
       );
       stays = λ not. record { kept = kept; are = is ∙ ap (λ x. front ++ x ∷ back) (on_line.stays not) ∙ sym all };
-      tells = on_line.tells apart here ∙ sym (ap (λ xs. list_any (has_holder_at p) xs) all ∙ held_on_one p front s back here alone);
+      tells = on_line.tells apart here ∙ sym (ap (λ xs. list_any (has_container_at p) xs) all ∙ held_on_one p front s back here alone);
     }
 
 -- ---- what stands in the value of a line has a parent there
@@ -94,13 +94,13 @@ none_at_all (Token text) = refl
 none_at_all (Listed opening es) = refl
 none_at_all (Braced opening es) = refl
 
-no_steps_held : (e : ExprOutline) → expr_has_holder e [] ≡ false
+no_steps_held : (e : ExprOutline) → expr_has_container e [] ≡ false
 no_steps_held Nothing = refl
 no_steps_held (Pair a v) = none_at_all v
 no_steps_held (Header opening before first rest after closing) = refl
 
 begins_parent : (a q : Address) (last : Step) (e : ExprOutline) → begins a (q ++ last ∷ []) ≡ true
-    → expr_has_holder e (drop (length a) (q ++ last ∷ [])) ≡ true → begins a q ≡ true
+    → expr_has_container e (drop (length a) (q ++ last ∷ [])) ≡ true → begins a q ≡ true
 begins_parent [] q last e h held = refl
 begins_parent (s ∷ []) [] last e h held = absurd (true≢false (sym held ∙ no_steps_held e))
 begins_parent (s ∷ t ∷ a) [] last e h held = let (here, behind) = and_parts (same_step s last) (begins (t ∷ a) []) h in absurd (true≢false (sym behind))
@@ -109,7 +109,7 @@ begins_parent (s ∷ a) (t ∷ q) last e h held =
     ap (λ b. b && begins a q) here ∙ begins_parent a q last e behind held
 
 parent_on : (q : Address) (last : Step) (base : Option ℕ) (own : Option Address) (e : ExprOutline) → leads_to (q ++ last ∷ []) base own ≡ true
-    → expr_has_holder e (drop (steps_to own) (q ++ last ∷ [])) ≡ true → leads_to q base own ≡ true
+    → expr_has_container e (drop (steps_to own) (q ++ last ∷ [])) ≡ true → leads_to q base own ≡ true
 parent_on q last None own e h held = absurd (true≢false (sym h))
 parent_on q last (Some n) None e h held = absurd (true≢false (sym h))
 parent_on q last (Some n) (Some a) e h held = begins_parent a q last e h held
@@ -128,8 +128,8 @@ any_weaker f g more (x ∷ xs) h = by (any_weaker f g more xs) (f x) refl h
 
 -- where an array or an inline table in the value of a line holds it, that value holds its parent
 pub parent_held : ParentIsHeld
-parent_held q last ss = any_weaker (has_holder_at (q ++ last ∷ [])) (holds q)
-    (λ s h. let (leads, held) = and_parts (holds (q ++ last ∷ []) s) (expr_has_holder s.outline.expr (drop (steps_to s.address) (q ++ last ∷ []))) h in
+parent_held q last ss = any_weaker (has_container_at (q ++ last ∷ [])) (holds q)
+    (λ s h. let (leads, held) = and_parts (holds (q ++ last ∷ []) s) (expr_has_container s.outline.expr (drop (steps_to s.address) (q ++ last ∷ []))) h in
     parent_on q last s.base s.address s.outline.expr leads held) ss
 
 -- what holds the parent holds what stands in it
@@ -155,35 +155,35 @@ not_held q text read slots ss none not_root stands ordered there =
     let all = none not_root read.lines (subst (λ xs. StandAlone xs) (sym stands.are) ordered.alone) in
     true≢false (sym there ∙ subst (λ xs. list_any (holds q) xs ≡ false) stands.are all)
 
-some_steps : (n : ℕ) (p : Address) (e : ExprOutline) → expr_has_holder e (drop n p) ≡ true → n < length p
+some_steps : (n : ℕ) (p : Address) (e : ExprOutline) → expr_has_container e (drop n p) ≡ true → n < length p
 some_steps zero [] e held = absurd (true≢false (sym held ∙ no_steps_held e))
 some_steps (suc n) [] e held = absurd (true≢false (sym held ∙ no_steps_held e))
 some_steps zero (s ∷ p) e held = omega arith
 some_steps (suc n) (s ∷ p) e held = let few = some_steps n p e held in omega (arith, few)
 
-pub steps_left : (p : Address) (s : Standing) → has_holder_at p s ≡ true → (holds p s ≡ true) × (steps_to s.address < length p)
+pub steps_left : (p : Address) (s : Standing) → has_container_at p s ≡ true → (holds p s ≡ true) × (steps_to s.address < length p)
 steps_left p s h =
-    let (leads, held) = and_parts (holds p s) (expr_has_holder s.outline.expr (drop (steps_to s.address) p)) h in
+    let (leads, held) = and_parts (holds p s) (expr_has_container s.outline.expr (drop (steps_to s.address) p)) h in
     (leads, some_steps (steps_to s.address) p s.outline.expr held)
 
-held_in_value : (p : Address) (s : Standing) → has_holder_at p s ≡ true → holds_inside p s ≡ true
+held_in_value : (p : Address) (s : Standing) → has_container_at p s ≡ true → holds_inside p s ≡ true
 held_in_value p s h =
     let (leads, few) = steps_left p s h in
     let low : nat_lt (steps_to s.address) (length p) ≡ true = grind (arith, nat_tests, few) in
     ap₂ (λ a b. a && b) leads low
 
-none_at_root : (ss : List Standing) → list_any (has_holder_at []) ss ≡ true → ⊥
+none_at_root : (ss : List Standing) → list_any (has_container_at []) ss ≡ true → ⊥
 none_at_root [] h = true≢false (sym h)
-none_at_root (s ∷ ss) h = by (none_at_root ss) (has_holder_at [] s) refl h
+none_at_root (s ∷ ss) h = by (none_at_root ss) (has_container_at [] s) refl h
   where
-    by : (list_any (has_holder_at []) ss ≡ true → ⊥) → (b : Bool) → has_holder_at [] s ≡ b → (b || list_any (has_holder_at []) ss) ≡ true → ⊥
+    by : (list_any (has_container_at []) ss ≡ true → ⊥) → (b : Bool) → has_container_at [] s ≡ b → (b || list_any (has_container_at []) ss) ≡ true → ⊥
     by behind true is there = let (leads, few) = steps_left [] s is in absurd (omega (arith, few))
     by behind false is there = behind there
 
 pub held_inside : HeldIsInside
 held_inside p ss there = (
-  (λ is. none_at_root ss (subst (λ a. list_any (has_holder_at a) ss ≡ true) is there)),
-  any_weaker (has_holder_at p) (holds_inside p) (held_in_value p) ss there,
+  (λ is. none_at_root ss (subst (λ a. list_any (has_container_at a) ss ≡ true) is there)),
+  any_weaker (has_container_at p) (holds_inside p) (held_in_value p) ss there,
 )
 
 -- ---- a line whose value holds the address

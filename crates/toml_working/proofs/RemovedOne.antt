@@ -13,7 +13,7 @@ use Rattle.toml_working.specs.declared.lines.Sought.TheVariants as kinds
 use Rattle.toml_working.specs.declared.working.Position.{Position}
 use Rattle.toml_working.specs.declared.working.Tree.{Tree}
 use Rattle.toml_working.specs.RemoveStanding.{is_pair, is_undotted_at, is_undotted_pair, is_value_at, left_standing, remove_standing, without}
-use Rattle.toml_working.specs.RemovingIn.{IsUndottedAt, LeavesSlot, LeavesSlots, RemovesLines, base_of, steps_or_none}
+use Rattle.toml_working.specs.RemovingIn.{IsAtMostOneBelow, LeavesSlot, LeavesSlots, RemovesLines, base_of, steps_or_zero}
 use Rattle.toml_working.specs.Seeing.{HoldsNone, IsSoughtAt, line_at, steps_of, steps_to}
 use Rattle.toml_working.specs.Standing.{Standing, Read, StandAlone, covers, covers_at, holds, is_below, leads_to, lies_below, slot_standing, slots_standing}
 use Rattle.toml_layout.specs.Beginnings.{begins}
@@ -24,7 +24,7 @@ use Rattle.toml_working.proofs.AtPlace.{holder_at}
 use Rattle.toml_working.proofs.Each.{each_back, each_front, each_get, each_set, each_weaker}
 use Rattle.toml_working.proofs.Turned.{one_turned}
 use Rattle.toml_working.proofs.HeldLines.{any_weaker, steps_left}
-use Rattle.toml_working.specs.HeldLines.{HeldIsNoLine, has_holder_at}
+use Rattle.toml_working.specs.HeldLines.{HeldIsNoLine, UndottedIsPair, has_container_at}
 use Rattle.toml_working.proofs.Pairwise.{PairsAre, pairs_of_all}
 
 -- the address of a pair's line
@@ -157,14 +157,14 @@ undotted_pair p None own is = cc
 undotted_pair p (Some n) own is = (and_parts (is_value_at p (Some n) own) (length p == n + 1) is).0
 
 -- and its table has one step less than it
-undotted_base : (p : Address) (base : Option ℕ) (own : Option Address) → is_undotted_at p base own ≡ true → length p ≤ steps_or_none base + 1
+undotted_base : (p : Address) (base : Option ℕ) (own : Option Address) → is_undotted_at p base own ≡ true → length p ≤ steps_or_zero base + 1
 undotted_base p None own is = cc
 undotted_base p (Some n) own is =
     let same : length p ≡ n + 1 = eqb-true (length p) (n + 1) (and_parts (is_value_at p (Some n) own) (length p == n + 1) is).1 in
     omega (arith, same)
 
-pair_is_there : (p : Address) (ss : List Standing) → list_any (is_undotted_pair p) ss ≡ true → list_any (is_pair p) ss ≡ true
-pair_is_there p ss = any_weaker (is_undotted_pair p) (is_pair p) (λ s is. undotted_pair p s.base s.address is) ss
+pub undotted_is_pair : UndottedIsPair
+undotted_is_pair p ss = any_weaker (is_undotted_pair p) (is_pair p) (λ s is. undotted_pair p s.base s.address is) ss
 
 -- of lines that stand alone it is the one that is the pair's
 undotted_here : (p : Address) (front : List Standing) (s : Standing) (back : List Standing) → is_pair p s ≡ true → EachIs (λ t. is_below p t ≡ false) front
@@ -195,11 +195,11 @@ placed_goes p read old now at ss t h put left =
     ∙ ap (remove_standing p) (sym h.all)
 
 pub holder_goes : (p : Address) (read : Read) (old now : Tree) (at : Position) → KeepsRest old now
-    → (IsUndottedAt p read old.slots.items at → LeavesSlots p read.units at.slot old.slots.items now.slots.items)
+    → (IsAtMostOneBelow p read old.slots.items at → LeavesSlots p read.units at.slot old.slots.items now.slots.items)
     → IsSoughtAt kinds.Holder p read old.slots.items at → RemovesLines p read old now
 holder_goes p read old now at rest leaves found ss stands ordered there =
     let text = text_of old.texts.source in
-    let h = is_placed p read old.slots.items at ss found stands.are ordered.alone (pair_is_there p ss there) in
+    let h = is_placed p read old.slots.items at ss found stands.are ordered.alone (undotted_is_pair p ss there) in
     let undotted = undotted_here p (h.before ++ h.front) h.line (h.back ++ h.behind) h.pair h.ahead h.after
     (subst (λ xs. list_any (is_undotted_pair p) xs ≡ true) h.all there) in
     let low = subst (λ o. length p ≤ base_of o + 1) (sym h.placed) (undotted_base p h.line.base h.line.address undotted) in
@@ -216,7 +216,7 @@ holder_goes p read old now at rest leaves found ss stands ordered there =
 pub never_inside : (p : Address) (read : Read) (old now : Tree) (at : Position) (steps : ℕ) → steps ≡ steps_of (line_at read old.slots.items at) → steps < length p
     → IsSoughtAt kinds.Holder p read old.slots.items at → RemovesLines p read old now
 never_inside p read old now at steps counts low found ss stands ordered there =
-    let h = is_placed p read old.slots.items at ss found stands.are ordered.alone (pair_is_there p ss there) in
+    let h = is_placed p read old.slots.items at ss found stands.are ordered.alone (undotted_is_pair p ss there) in
     let same : steps ≡ length p = counts ∙ ap steps_of h.placed ∙ ap steps_to (pair_address p h.line.base h.line.address h.pair) in
     absurd (omega arith)
 
@@ -257,7 +257,7 @@ pub none_goes : (p : Address) (read : Read) (old now : Tree) → HoldsNone p rea
 none_goes p read old now none ss stands ordered there =
     let not_root : ¬ (p ≡ []) = λ is. none_at_root ss (subst (λ q. list_any (is_undotted_pair q) ss ≡ true) is there) in
     let all = none not_root read.lines (subst StandAlone (sym stands.are) ordered.alone) in
-    absurd (any_holds p ss (pair_is_there p ss there) (subst (λ xs. list_any (holds p) xs ≡ false) stands.are all))
+    absurd (any_holds p ss (undotted_is_pair p ss there) (subst (λ xs. list_any (holds p) xs ≡ false) stands.are all))
 
 -- ---- what is held in a value
 
@@ -274,9 +274,9 @@ any_split {A = A} test (x ∷ xs) there = by (any_split test xs) (test x) refl t
 
 pub held_is_no_line : HeldIsNoLine
 held_is_no_line p ss ordered held there =
-    let (front, s, back, split, here) = any_split (has_holder_at p) ss held in
+    let (front, s, back, split, here) = any_split (has_container_at p) ss held in
     let (leads, few) = steps_left p s here in
     let apart = around front s back (pairs_of_all _ _ (subst StandAlone split ordered.alone)) in
-    let pair = holder_is p front s back leads apart (subst (λ xs. list_any (is_pair p) xs ≡ true) split (pair_is_there p ss there)) in
+    let pair = holder_is p front s back leads apart (subst (λ xs. list_any (is_pair p) xs ≡ true) split there) in
     let same : steps_to s.address ≡ length p = ap steps_to (pair_address p s.base s.address pair) in
     absurd (omega (arith, few, same))

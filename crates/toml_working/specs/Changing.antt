@@ -19,7 +19,7 @@ use Rattle.toml_working.specs.declared.working.Position.{Position}
 use Rattle.toml_working.specs.declared.working.Tree.{Tree}
 use Rattle.toml_layout.specs.OpenOutlines.{line}
 use Rattle.toml_layout.specs.Outlines.{ValueOutline, LineOutline}
-use Rattle.toml_working.specs.HeldLines.{expr_has_holder, has_holder_at}
+use Rattle.toml_working.specs.HeldLines.{expr_has_container, has_container_at}
 use Rattle.toml_working.specs.RenameStanding.{rename_inside, rename_line_outline}
 use Rattle.toml_working.specs.Seeing.{found, line_at}
 use Rattle.toml_working.specs.Standing.{Standing, Read, IsApart, expr_has, has, holds, set_line_outline, set_standing, slots_standing}
@@ -37,7 +37,7 @@ RenamesOpen steps text old now = IsApart old.expr → (at : Address) → now ≡
 pub record HoldsOpen (steps : Address) (makes : HolderChange) (old now : LineOutline) (done : Bool) : Type 0 where
   pub made : HoldsBy SetsOpen steps makes old now done
   pub stays : done ≡ false → now ≡ old
-  pub tells : IsApart old.expr → done ≡ expr_has_holder old.expr steps
+  pub tells : IsApart old.expr → done ≡ expr_has_container old.expr steps
 
 abbrev pub ChangesOpen : Layout → Address → Inside → LineOutline → LineOutline → Bool → Type 0
 ChangesOpen layout steps = Changes layout (SetsOpen steps) (RenamesOpen steps) (HoldsOpen steps)
@@ -61,7 +61,7 @@ SetsThere p new old now done = (holds p old ≡ true) × SetsStanding p new old 
 pub record HoldsStanding (p : Address) (makes : HolderChange) (old now : Standing) (done : Bool) : Type 0 where
   pub made : holds p old ≡ true → HoldsBy SetsThere p makes old now done
   pub stays : done ≡ false → now ≡ old
-  pub tells : IsApart old.outline.expr → holds p old ≡ true → done ≡ has_holder_at p old
+  pub tells : IsApart old.outline.expr → holds p old ≡ true → done ≡ has_container_at p old
 
 abbrev pub ChangesAs : Layout → Address → Inside → Standing → Standing → Bool → Type 0
 ChangesAs layout p = Changes layout (SetsStanding p) (RenamesStanding p) (HoldsStanding p)

@@ -15,7 +15,7 @@ use Rattle.toml_layout.specs.OpenOutlines.{value}
 use Rattle.toml_layout.specs.Outlines.{ExprOutline, Header, Nothing, Pair, ValueOutline}
 use Rattle.toml_working.specs.declared.lines.Slot.{Slot}
 use Rattle.toml_working.specs.declared.working.Tree.{Tree}
-use Rattle.toml_working.specs.RemoveStanding.{is_undotted_pair}
+use Rattle.toml_working.specs.RemoveStanding.{is_pair, is_undotted_pair}
 use Rattle.toml_working.specs.Seeing.{steps_to}
 use Rattle.toml_working.specs.Standing.{Standing, Read, AreOrdered, has, holds, set_standing}
 use Rattle.toml_working.specs.Stands.{Stands}
@@ -25,21 +25,21 @@ abbrev pub SetsEach : Address → ValueOutline → List Standing → List Standi
 SetsEach p new old now done = (now ≡ map (set_standing p new) old) × (done ≡ list_any (has p) old)
 
 -- whether an array or an inline table in the value of a line holds what the steps below the line name, or would hold it
-abbrev pub expr_has_holder : ExprOutline → Address → Bool
-expr_has_holder Nothing steps = false
-expr_has_holder (Pair assign held) steps = has_holder held steps
-expr_has_holder (Header opening before first rest after closing) steps = false
+abbrev pub expr_has_container : ExprOutline → Address → Bool
+expr_has_container Nothing steps = false
+expr_has_container (Pair assign held) steps = has_holder held steps
+expr_has_container (Header opening before first rest after closing) steps = false
 
 -- the same of what stands at an address
-abbrev pub has_holder_at : Address → Standing → Bool
-has_holder_at p s = holds p s && expr_has_holder s.outline.expr (drop (steps_to s.address) p)
+abbrev pub has_container_at : Address → Standing → Bool
+has_container_at p s = holds p s && expr_has_container s.outline.expr (drop (steps_to s.address) p)
 
 -- The tree stands for lines. Where an array or an inline table in the value of one holds what stands at the address, or would hold it, the
 -- tree now stands for others, in which that one has changed so; else for the same.
 pub record HoldsLines (p : Address) (makes : HolderChange) (text : List ℕ) (read : Read) (old now : List Slot) (ss : List Standing) (done : Bool) : Type 0 where
   pub made : done ≡ true → (ts : List Standing) × Stands text read now ts × ChangesHolder SetsEach makes p ss ts
   pub stays : done ≡ false → Stands text read now ss
-  pub tells : done ≡ list_any (has_holder_at p) ss
+  pub tells : done ≡ list_any (has_container_at p) ss
 
 -- whether the value of the line holds what stands at the address, and does not stand there itself
 abbrev pub holds_inside : Address → Standing → Bool
@@ -70,14 +70,17 @@ PutLinesAreOne = (layout : Layout) (spelled twin : List (String Global)) (p : Ad
     → map string_bytes spelled ≡ map string_bytes twin → value put ≡ value same → ChangesHolder SetsEach (PutsHeld layout spelled put) p ss now
     → ChangesHolder SetsEach (PutsHeld layout twin same) p ss new → now ≡ new
 
--- Laws: where an array or an inline table in the value of a line holds what stands at an address, the parent is that value or stands in it,
--- and what stands at the address lies in it.
+-- Laws: where an array or an inline table in the value of a line holds what stands at an address, the value of a line is the parent or holds
+-- it, and what stands at the address lies in the value of a line.
 abbrev pub ParentIsHeld : Type 0
-ParentIsHeld = (q : Address) (last : Step) (ss : List Standing) → list_any (has_holder_at (q ++ last ∷ [])) ss ≡ true → list_any (holds q) ss ≡ true
+ParentIsHeld = (q : Address) (last : Step) (ss : List Standing) → list_any (has_container_at (q ++ last ∷ [])) ss ≡ true → list_any (holds q) ss ≡ true
 
 abbrev pub HeldIsInside : Type 0
-HeldIsInside = (p : Address) (ss : List Standing) → list_any (has_holder_at p) ss ≡ true → (¬ (p ≡ [])) × (list_any (holds_inside p) ss ≡ true)
+HeldIsInside = (p : Address) (ss : List Standing) → list_any (has_container_at p) ss ≡ true → (¬ (p ≡ [])) × (list_any (holds_inside p) ss ≡ true)
 
--- Law: and it is no line's own value, of lines that stand alone.
+-- Laws: what is so held is no line's own value, of lines as the table rules have them, and what has a key that is not dotted is one.
 abbrev pub HeldIsNoLine : Type 0
-HeldIsNoLine = (p : Address) (ss : List Standing) → AreOrdered ss → list_any (has_holder_at p) ss ≡ true → list_any (is_undotted_pair p) ss ≡ true → ⊥
+HeldIsNoLine = (p : Address) (ss : List Standing) → AreOrdered ss → list_any (has_container_at p) ss ≡ true → list_any (is_pair p) ss ≡ true → ⊥
+
+abbrev pub UndottedIsPair : Type 0
+UndottedIsPair = (p : Address) (ss : List Standing) → list_any (is_undotted_pair p) ss ≡ true → list_any (is_pair p) ss ≡ true

@@ -29,7 +29,8 @@ is_value_at p (Some n) (Some a) = same_address a p
 abbrev pub is_pair : Address → Standing → Bool
 is_pair p s = is_value_at p s.base s.address
 
--- the same, and the key is not dotted: the address has one step more than that of the table in which the line stands
+-- whether the value of a line with this base and address stands at the other, by a key that is not dotted: the address has one step more
+-- than that of the table in which the line stands
 abbrev pub is_undotted_at : Address → Option ℕ → Option Address → Bool
 is_undotted_at p None own = false
 is_undotted_at p (Some n) own = is_value_at p (Some n) own && (length p == n + 1)

@@ -47,21 +47,23 @@ LeavesSlot p units old now = (text : List ℕ) (read : Read) → read.units ≡ 
 abbrev pub LeavesSlots : Address → List ReadUnit → ℕ → List Slot → List Slot → Type 0
 LeavesSlots p units = OneTurns (LeavesSlot p units)
 
-abbrev pub steps_or_none : Option ℕ → ℕ
-steps_or_none None = 0
-steps_or_none (Some n) = n
+-- a number of steps, if there is one
+abbrev pub steps_or_zero : Option ℕ → ℕ
+steps_or_zero None = 0
+steps_or_zero (Some n) = n
 
 -- how many steps lead to the table in which a line with a key and a value stands; of another line none
 abbrev pub base_of : Option Standing → ℕ
 base_of None = 0
-base_of (Some s) = steps_or_none s.base
+base_of (Some s) = steps_or_zero s.base
 
+-- the number is that of the line at the place
 abbrev pub CountsBase : List ReadUnit → List Slot → Position → ℕ → Type 0
 CountsBase units slots at result = (lines : List tree.Line) → result ≡ base_of (line_at (read_by units lines) slots at)
 
--- the address has at most one step more than that
-abbrev pub IsUndottedAt : Address → Read → List Slot → Position → Type 0
-IsUndottedAt p read slots at = length p ≤ base_of (line_at read slots at) + 1
+-- the address has at most one step more than that of the table in which the line at the place stands
+abbrev pub IsAtMostOneBelow : Address → Read → List Slot → Position → Type 0
+IsAtMostOneBelow p read slots at = length p ≤ base_of (line_at read slots at) + 1
 
 -- a `remove` on lines, on one of which a key that is not dotted has the value
 abbrev pub RemovesLines : Address → Read → Tree → Tree → Type 0

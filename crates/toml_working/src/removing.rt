@@ -2,7 +2,7 @@
 ghost use Rattle.std.specs.Prelude.{◌≡◌, IfOk, OnOk, true};
 ghost use Rattle.toml_working.specs.HeldLines.{TakesFromValue};
 ghost use Rattle.toml_working.specs.InValues.{IsParent};
-ghost use Rattle.toml_working.specs.RemovingIn.{IsUndottedAt, LeavesBehind, LeavesLines, LeavesOf, LeavesSlot, LeavesSlots, RemovesLines};
+ghost use Rattle.toml_working.specs.RemovingIn.{IsAtMostOneBelow, LeavesBehind, LeavesLines, LeavesOf, LeavesSlot, LeavesSlots, RemovesLines};
 ghost use Rattle.toml_working.specs.Seeing.{IsSoughtAt};
 ghost use Rattle.toml_working.specs.declared.lines.Sought.TheVariants.{Holder};
 ghost use Rattle.toml_working.specs.Starting.{read_of};
@@ -91,7 +91,7 @@ impl<'x> Tree<'x> {
     ) -> Result<(), AllocError>
         ensures rest { OnOk result (KeepsRest self.old self.new) }
         ensures slots { let old = self.old.slots.items in
-            OnOk result (IsUndottedAt at.now (read_of before.entry) old place → LeavesSlots at.now before.entry.units.now place.slot old self.new.slots.items) }
+            OnOk result (IsAtMostOneBelow at.now (read_of before.entry) old place → LeavesSlots at.now before.entry.units.now place.slot old self.new.slots.items) }
     {
         let mut parent = self.parent_of_line(before, at, place)?;
         remove_in(
@@ -112,7 +112,7 @@ impl<'x> Tree<'x> {
         at: &Address,
         place: Position,
     ) -> Result<Parent, AllocError>
-        ensures { IfOk result (λ parent. IsUndottedAt at.now (read_of before.entry) self.now.slots.items place → parent.stays ≡ true) }
+        ensures { IfOk result (λ parent. IsAtMostOneBelow at.now (read_of before.entry) self.now.slots.items place → parent.stays ≡ true) }
     {
         if self.base(before, place).saturating_add(1) < at.steps().len() {
             return self.parent_left(before, at, place.slot);

@@ -17,7 +17,7 @@ returns-in-Found-clause-edited c =
         outer = found.outermost;
         plain = c.requires.made.plain;
         passed = c.requires.made.passed;
-        held = c.requires.made.held;
+        last = c.requires.made.last;
       };
       pieces = c.requires.made.pieces;
     }

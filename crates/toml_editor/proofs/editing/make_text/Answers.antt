@@ -18,7 +18,7 @@ use Rattle.toml_editor.proofs.NearFaults.{any_of_all, has_data}
 use Rattle.toml_editor.proofs.SourceKept.{as_read}
 use Rattle.toml_editor.proofs.PassedSpread.{no_spread_set, stops_told}
 use Rattle.toml_editor.proofs.ReadDocuments.{is_document, is_read_of, spelled, tree}
-use Rattle.toml_editor.proofs.PlainMade.{held_written, plain_written}
+use Rattle.toml_editor.proofs.PlainMade.{last_written, plain_written}
 use Rattle.toml_editor.proofs.editing.make_text.Goals as goal
 
 pub returns-clause-told : goal.returns-clause-told
@@ -69,8 +69,8 @@ returns-in-Ok-make_all-clause-made c =
           spells opened.stands (ap (λ (t : Texts). text_of t.source) opened.texts_are) opened.elements c.args.layout mannered cs old
           (beside (is_hidden c.args.touched.now) old new) c.make_all.new.tree (string_bytes made.text) facts leads
           c.in-Ok-make_all.ensures.made.done.makes written;
-      held =
-          held_written profile (read_of c.args.read.before) d text c.in-Ok.tree document
+      last =
+          last_written profile (read_of c.args.read.before) d text c.in-Ok.tree document
           spells opened.stands (ap (λ (t : Texts). text_of t.source) opened.texts_are) opened.elements c.args.layout mannered cs old
           (beside (is_hidden c.args.touched.now) old new) c.make_all.new.tree (string_bytes made.text) facts leads
           c.in-Ok-make_all.ensures.made.done.holds written;

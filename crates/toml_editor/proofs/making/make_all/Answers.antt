@@ -68,7 +68,7 @@ returns-in-Err-clause-told c =
       told = any_of_one profile places edits here.index edit near part c.in-Err.fault (omega arith) c.index-edits-index.is here.invariant.0 says.told;
       stops = stops_at profile read places (map change edits) near part here.index (change edit) old here.tree c.in-Err.fault here.invariant.2
           (subst (λ ds. MakesAll profile read ds old here.tree) (sym (take_map here.index edits)) here.invariant.1)
-          (get_map edits here.index edit (omega arith) c.index-edits-index.is) says.told says.lacks;
+          (get_map edits here.index edit (omega arith) c.index-edits-index.is) says.told says.neither;
     }
 
 pub returns-clause-made : goal.returns-clause-made

@@ -30,7 +30,7 @@ returns-then-is_spread-clause-told c =
     let may = c.in_ok-spread.ensures.yes both.1 in
     record {
       told = (refl, (c.in_ok-applied.ensures.ok.0, may));
-      lacks =
+      neither =
           not_spread _ _ (places_in c.args.read) c.args.index (drafted c.args.draft.now) _ _ _ c.in_ok-done.done c.in_ok-done.ensures both.0 may;
     }
 
@@ -40,5 +40,5 @@ returns-then-is_last-clause-told c =
     let takes = c.is_only_element-only.ensures both.1 in
     record {
       told = (refl, (c.in_ok-applied.ensures.ok.0, takes));
-      lacks = not_last _ _ (drafted c.args.draft.now) _ _ _ c.in_ok-done.done c.in_ok-done.ensures both.0 takes;
+      neither = not_last _ _ (drafted c.args.draft.now) _ _ _ c.in_ok-done.done c.in_ok-done.ensures both.0 takes;
     }
