@@ -278,12 +278,12 @@ pub last_held : (profile : Profile) (read : Read) (cs : List Change) (c : Change
 last_held profile read cs c old mid new makes one front d is text kinds now last at lead is_after plain between written e spells there =
     let (fronts, edits) = same_last cs front c d is in
     let all = makes text kinds now at (subst (λ es. Lead profile es kinds now) (sym fronts) lead)
-        (subst (λ es. ArePlain profile es (manner old) text) (sym fronts) plain) in
+    (subst (λ es. ArePlain profile es (manner old) text) (sym fronts) plain) in
     let text_is : all.after ≡ between = one_list_written profile cs (manner old) text all.after between all.written
-        (subst (λ es. AreWritten profile es (manner old) text between) (sym fronts) written) in
+    (subst (λ es. AreWritten profile es (manner old) text between) (sym fronts) written) in
     let tree_is : all.at.good.tree ≡ e = one_tree all.at.good.tree e all.after all.at.good.spelled.0 (subst (Spells e) (sym text_is) spells.0) in
     let (ts, stands, changed) = one all.after now last all.at (subst (λ x. IsAfter profile x now last) (sym edits) is_after)
-        (subst₂ (λ (x : Doc) y. IsHeldOrUndotted x.lines y) (sym tree_is) (sym edits) there) in (
+    (subst₂ (λ (x : Doc) y. IsHeldOrUndotted x.lines y) (sym tree_is) (sym edits) there) in (
       ts,
       subst (λ t. Stands t read new.slots.items ts) (ap (λ (s : Texts). text_of s.source) all.source.texts) stands,
       subst (λ l. ChangesLines l profile d (standing e.lines) ts) (ap (λ (s : Texts). s.layout) all.source.texts)

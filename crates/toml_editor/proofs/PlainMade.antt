@@ -85,7 +85,7 @@ module _ (profile : Profile) (read : Read) (d : Doc) (before : List ℕ) (tree :
             let (mid, led, none, is_after) = lead_parted profile front c old now (subst (λ es. Lead profile es old now) is lead) in
             let as_tree = subst (λ m. AreWritten profile front m before between) (sym mannered) written in
             let (ts, stand, changed) = holds front c is before old mid now first led is_after
-                (subst (λ m. ArePlain profile front m before) (sym mannered) plain) between as_tree e spells there in
+            (subst (λ m. ArePlain profile front m before) (sym mannered) plain) between as_tree e spells there in
             let steps = plain_steps profile front (manner tree) before between old mid first.newline first.good led as_tree in
             let tree_is : steps.0.tree ≡ e = one_tree steps.0.tree e between steps.0.spelled.0 spells.0 in
             let mark : d.mark ≡ e.mark = sym steps.1 ∙ ap (λ (x : Doc). x.mark) tree_is in (
