@@ -19,6 +19,7 @@ pub enum Part {
     Comment,
 }
 
+/// Whether the place is the address or lies above it.
 fn is_at_or_above(side: Side) -> bool
     ensures { result ≡ is_at_or_above side }
 {

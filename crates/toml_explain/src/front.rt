@@ -100,6 +100,7 @@ fn next(room: Room, byte: u8) -> Room {
     }
 }
 
+/// Where a byte stands before which no string and no comment is open.
 fn behind_plain(byte: u8) -> Room {
     match byte {
         b'#' => Room::Comment,
@@ -108,6 +109,7 @@ fn behind_plain(byte: u8) -> Room {
     }
 }
 
+/// Where a byte stands before which a string on one line is open.
 fn behind_quoted(mark: u8, byte: u8) -> Room {
     if byte == mark {
         Room::Plain

@@ -61,6 +61,7 @@ fn write_part(
     }
 }
 
+/// Writes an array, its elements in order.
 #[cycle(write)]
 fn write_items(
     writer: &mut Writer,
