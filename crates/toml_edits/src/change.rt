@@ -71,7 +71,7 @@ fn put_member(members: &mut BTreeMap<String, Datum>, name: &str, part: Datum)
     }
 }
 
-/// The growth comes first, so that a refused one changes nothing.
+/// Gives a member another name. The growth comes first, so that a refused one changes nothing.
 fn rename_member(
     alloc: Global,
     members: &mut BTreeMap<String, Datum>,

@@ -34,7 +34,7 @@ pub(crate) struct Front {
 }
 
 impl Front {
-    /// What some bytes are, which were read from the beginning of a line on.
+    /// What stands open at the end of these bytes, which were read from the beginning of a line on.
     pub(crate) fn of(alloc: Global, bytes: &[u8]) -> Result<Front, AllocError> {
         let mut front = Front {
             last: None,

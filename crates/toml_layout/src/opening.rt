@@ -1,4 +1,4 @@
-//! The tree of a document, or of a value that an edit brings, as a part of the working tree.
+//! A line of a document, or a value that an edit brings, opened.
 ghost use Rattle.std.specs.Prelude.{◌≡◌, IfOk, IfSome, option_map};
 ghost use Rattle.toml_text.specs.Source.{text_of};
 ghost use Rattle.toml_tree.specs.Lines.{line as tree_line};
@@ -27,7 +27,7 @@ use toml_tree::{Line, Piece, Profile, parse_value_in};
 /// Opens trees.
 #[derive(Clone, Copy)]
 pub(crate) struct Opener<'t> {
-    /// The text of which the tree is.
+    /// Its text is that of the document.
     texts: Texts<'t>,
     /// Whether the tree is the document's, and not one that an edit brings.
     is_kept: bool,
@@ -302,7 +302,7 @@ impl<'t> Opener<'t> {
     }
 }
 
-/// The text of a value of the profile as a part of the working tree, if it is one.
+/// The text of a value of the profile, opened, if it is one.
 pub fn open_value<'t>(
     alloc: Global,
     text: &'t str,

@@ -62,7 +62,7 @@ fn push_assign(out: &mut String, a: &Assign<'_>) -> Result<(), AllocError>
     Ok(())
 }
 
-/// An array's and an inline table's text is that of its piece.
+/// Adds the text of a value: an array's and an inline table's is that of its piece.
 fn push_value(out: &mut String, v: &Value<'_>) -> Result<(), AllocError>
     requires { ∥ IsValue (value v.now) ∥₁ }
     ensures { OnOk result (string_bytes out.new ≡ string_bytes out.old ++ joined (value_parts (value v.now))) }

@@ -29,8 +29,8 @@ static LAYOUTS: [&str; 2] = ["plain", "follow"];
 pub enum WordsFault {
     /// What the parser answers to the words: a mistake in them, the text for who asks for help, or want of memory.
     Parser(clap::Error),
-    /// The parser took the words, and they ask for nothing: two ways to print exclude each other, two files are standard input, or
-    /// what is to be changed in place is.
+    /// The parser took the words, and they ask for nothing: two ways to print exclude each other, two files are standard input,
+    /// what is to be changed in place is, or a path or a place begins with a hyphen.
     Nothing,
     /// There was no memory.
     NoMemory,
@@ -108,7 +108,7 @@ fn editing_request<'a>(name: &str, found: &ArgMatches<'a>) -> Option<Request<'a>
     }
 }
 
-/// What the others ask, of which each has no list of files.
+/// What the other subcommands ask, those that have no list of files.
 fn reading_request<'a>(name: &str, found: &ArgMatches<'a>) -> Option<Request<'a>>
     ensures { option_map asked_by result ≡ reading_of name.now (rows_of (found_of found.now)) }
 {
