@@ -19,6 +19,7 @@ pub enum Part {
     Comment,
 }
 
+/// Whether the place is the address or lies above it.
 fn is_at_or_above(side: Side) -> bool
     ensures { result ≡ is_at_or_above side }
 {
@@ -28,7 +29,7 @@ fn is_at_or_above(side: Side) -> bool
     }
 }
 
-/// It removes at the address or above it,
+/// Whether the edit removes what stands at the address or above it.
 fn removes(edit: &Edit, side: Side) -> bool
     ensures { result ≡ removes (change edit.now) side }
 {
@@ -38,7 +39,7 @@ fn removes(edit: &Edit, side: Side) -> bool
     }
 }
 
-/// sets at it or above it,
+/// Whether it sets what stands at the address or above it.
 fn sets(edit: &Edit, side: Side) -> bool
     ensures { result ≡ sets (change edit.now) side }
 {
@@ -48,7 +49,7 @@ fn sets(edit: &Edit, side: Side) -> bool
     }
 }
 
-/// strictly above it,
+/// Whether it sets what stands strictly above the address.
 fn sets_above(edit: &Edit, side: Side) -> bool
     ensures { result ≡ sets_above (change edit.now) side }
 {
@@ -58,7 +59,7 @@ fn sets_above(edit: &Edit, side: Side) -> bool
     }
 }
 
-/// at it,
+/// Whether it sets what stands at the address.
 fn sets_it(edit: &Edit, side: Side) -> bool
     ensures { result ≡ sets_it (change edit.now) side }
 {
@@ -68,7 +69,7 @@ fn sets_it(edit: &Edit, side: Side) -> bool
     }
 }
 
-/// or renames at it or above it,
+/// Whether it renames what stands at the address or above it.
 fn renames(edit: &Edit, side: Side) -> bool
     ensures { result ≡ renames (change edit.now) side }
 {
@@ -78,7 +79,7 @@ fn renames(edit: &Edit, side: Side) -> bool
     }
 }
 
-/// at a place of more than so many steps.
+/// Whether it renames so at a place of more than so many steps.
 fn renames_in(edit: &Edit, steps: usize, side: Side) -> bool
     ensures { result ≡ renames_in (change edit.now) steps side }
 {
@@ -88,14 +89,14 @@ fn renames_in(edit: &Edit, steps: usize, side: Side) -> bool
     }
 }
 
-/// A header line, an element or a comment of an array or an inline table goes.
+/// Whether a header line, an element or a comment of an array or an inline table goes.
 fn part_is_gone(edit: &Edit, side: Side) -> bool
     ensures { result ≡ part_is_gone (change edit.now) side }
 {
     removes(edit, side) || sets(edit, side)
 }
 
-/// A line or a pair goes; `base` is, but for a header line, how many steps the address of the table has in which it stands.
+/// Whether a line or a pair goes; `base` is, but for a header line, how many steps the address of the table has in which it stands.
 fn line_is_gone(edit: &Edit, base: Option<usize>, side: Side) -> bool
     ensures { result ≡ line_is_gone (change edit.now) base side }
 {
@@ -105,7 +106,7 @@ fn line_is_gone(edit: &Edit, base: Option<usize>, side: Side) -> bool
     }
 }
 
-/// A line or a pair changes.
+/// Whether a line or a pair changes.
 fn line_is_changed(edit: &Edit, base: Option<usize>, side: Side) -> bool
     ensures { result ≡ line_is_changed (change edit.now) base side }
 {

@@ -70,6 +70,7 @@ pub fn apply_in(
     }
 }
 
+/// Takes what stands at the steps out of the data.
 fn remove(alloc: Global, root: &mut Datum, at: &[Step]) -> Result<(), EditFault>
     ensures fault { (profile : Profile) → IfErr result (IsRefused profile (remove at.now) (kind_at root.old)) }
     ensures ok { (profile : Profile) → OnOk result (IsApplied profile (remove at.now) (kind_at root.old) (kind_at root.new)) }
@@ -87,6 +88,7 @@ fn remove(alloc: Global, root: &mut Datum, at: &[Step]) -> Result<(), EditFault>
     }
 }
 
+/// Gives the member at the steps another name.
 fn rename(alloc: Global, root: &mut Datum, at: &[Step], to: &str) -> Result<(), EditFault>
     ensures fault { (profile : Profile) → IfErr result (IsRefused profile (rename at.now to.now) (kind_at root.old)) }
     ensures ok { (profile : Profile) → OnOk result (IsApplied profile (rename at.now to.now) (kind_at root.old) (kind_at root.new)) }
@@ -127,6 +129,7 @@ fn has_name(datum: &Datum, name: &str) -> bool
     }
 }
 
+/// Puts the data of the text in the place of what stands at the steps.
 fn set(
     alloc: Global,
     root: &mut Datum,
@@ -165,6 +168,7 @@ fn value_to_set(
     fitting(at, reading)
 }
 
+/// Puts the data of the text in at the steps, as a new member or element.
 fn insert(
     alloc: Global,
     root: &mut Datum,

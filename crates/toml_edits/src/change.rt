@@ -38,6 +38,7 @@ pub(crate) fn hole() -> Datum
     Datum::Scalar(Scalar::Bool(false))
 }
 
+/// Adds a member to a table, or leaves it as it was where the growth is refused.
 fn add_member(
     alloc: Global,
     members: &mut BTreeMap<String, Datum>,
@@ -52,6 +53,7 @@ fn add_member(
     Ok(())
 }
 
+/// Takes the member with the name out of a table, if there is one.
 fn take_member(members: &mut BTreeMap<String, Datum>, name: &str) -> Option<Datum>
     ensures taken { result ≡ get_by_text members.old name.now }
     ensures left { (n : List ℕ) → get_by_text members.new n ≡ cond (bytes_eq name.now n) None (get_by_text members.old n) }
@@ -69,7 +71,7 @@ fn put_member(members: &mut BTreeMap<String, Datum>, name: &str, part: Datum)
     }
 }
 
-/// The growth comes first, so that a refused one changes nothing.
+/// Gives a member another name. The growth comes first, so that a refused one changes nothing.
 fn rename_member(
     alloc: Global,
     members: &mut BTreeMap<String, Datum>,
@@ -88,6 +90,7 @@ fn rename_member(
     Ok(())
 }
 
+/// Puts an element into an array at the index, or leaves it as it was where the growth is refused.
 fn add_element(items: &mut Vec<Datum>, index: usize, part: Datum) -> Result<(), AllocError>
     requires { index ≤ vec_len items.old }
     ensures ok { OnOk result (items.new.items ≡ inserted items.old.items index part) }

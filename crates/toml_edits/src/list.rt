@@ -167,6 +167,7 @@ fn edit_of(alloc: Global, op: &str, at: Address, entry: &Value) -> Result<Option
     Ok(None)
 }
 
+/// The `set` of an entry, if its `value` is a text.
 fn set_of(alloc: Global, at: Address, entry: &Value) -> Result<Option<Edit>, AllocError>
     ensures { IfOk result (λ edit. option_map change edit ≡ option_map (set at) (text_at (codes "value") (view entry.now))) }
 {
@@ -177,6 +178,7 @@ fn set_of(alloc: Global, at: Address, entry: &Value) -> Result<Option<Edit>, All
     Ok(Some(Edit::Set { at, value }))
 }
 
+/// The `insert` of an entry, if its `value` is a text.
 fn insert_of(alloc: Global, at: Address, entry: &Value) -> Result<Option<Edit>, AllocError>
     ensures { IfOk result (λ edit. option_map change edit ≡ option_map (insert at) (text_at (codes "value") (view entry.now))) }
 {
@@ -187,6 +189,7 @@ fn insert_of(alloc: Global, at: Address, entry: &Value) -> Result<Option<Edit>, 
     Ok(Some(Edit::Insert { at, value }))
 }
 
+/// The `rename` of an entry, if its `to` is a text.
 fn rename_of(alloc: Global, at: Address, entry: &Value) -> Result<Option<Edit>, AllocError>
     ensures { IfOk result (λ edit. option_map change edit ≡ option_map (rename at) (text_at (codes "to") (view entry.now))) }
 {

@@ -17,6 +17,7 @@ use std::alloc::{AllocError, Global};
 use std::collections::BTreeMap;
 use toml_names::{Datum, MAX_STEPS, Name, Step};
 
+/// A table that has no members.
 fn empty_table(alloc: Global) -> Datum
     ensures { (at : Address) → kind_at result at ≡ an_empty_table at }
 {
@@ -109,6 +110,7 @@ fn element_place<'a>(at: &'a [Step]) -> Option<ElementPlace<'a>>
     })
 }
 
+/// Whether it is a table.
 fn is_table(datum: &Datum) -> bool
     ensures { IsTrue result ↔ (kind_at datum.now [] ≡ Some a_table) }
 {

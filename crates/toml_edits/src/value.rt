@@ -21,6 +21,7 @@ pub(crate) enum Reading {
 }
 
 impl Reading {
+    /// Whether the text is no value of the profile that keeps the table rules.
     pub(crate) fn is_bad(&self) -> bool
         ensures { IsTrue result ↔ (self.now ≡ Bad) }
     {

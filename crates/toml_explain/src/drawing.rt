@@ -84,6 +84,7 @@ pub(crate) struct Drawing {
 }
 
 impl Drawing {
+    /// A line of which nothing is drawn yet.
     fn new(alloc: Global) -> Drawing
         ensures drawn { IsDrawn result }
         ensures text { string_bytes result.text ≡ [] }

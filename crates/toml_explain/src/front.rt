@@ -34,7 +34,7 @@ pub(crate) struct Front {
 }
 
 impl Front {
-    /// What some bytes are, which were read from the beginning of a line on.
+    /// What stands open at the end of these bytes, which were read from the beginning of a line on.
     pub(crate) fn of(alloc: Global, bytes: &[u8]) -> Result<Front, AllocError> {
         let mut front = Front {
             last: None,
@@ -100,6 +100,7 @@ fn next(room: Room, byte: u8) -> Room {
     }
 }
 
+/// Where a byte stands before which no string and no comment is open.
 fn behind_plain(byte: u8) -> Room {
     match byte {
         b'#' => Room::Comment,
@@ -108,6 +109,7 @@ fn behind_plain(byte: u8) -> Room {
     }
 }
 
+/// Where a byte stands before which a string on one line is open.
 fn behind_quoted(mark: u8, byte: u8) -> Room {
     if byte == mark {
         Room::Plain

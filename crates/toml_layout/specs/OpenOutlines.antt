@@ -1,4 +1,4 @@
--- The outlines of what stands in the working tree.
+-- The outlines of what is opened.
 use Rattle.std.specs.Prelude.{ℕ, List, [], ◌∷◌, ◌++◌, map, Option, option_map}
 use Rattle.toml_lists.specs.Gaps.{items}
 use Rattle.toml_layout.specs.declared.tree.Leaf.{Leaf}

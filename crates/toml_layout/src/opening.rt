@@ -1,4 +1,4 @@
-//! The tree of a document, or of a value that an edit brings, as a part of the working tree.
+//! A line of a document, or a value that an edit brings, opened.
 ghost use Rattle.std.specs.Prelude.{◌≡◌, IfOk, IfSome, option_map};
 ghost use Rattle.toml_text.specs.Source.{text_of};
 ghost use Rattle.toml_tree.specs.Lines.{line as tree_line};
@@ -27,7 +27,7 @@ use toml_tree::{Line, Piece, Profile, parse_value_in};
 /// Opens trees.
 #[derive(Clone, Copy)]
 pub(crate) struct Opener<'t> {
-    /// The text of which the tree is.
+    /// Its text is that of the document.
     texts: Texts<'t>,
     /// Whether the tree is the document's, and not one that an edit brings.
     is_kept: bool,
@@ -54,6 +54,7 @@ impl<'t> Opener<'t> {
         }
     }
 
+    /// A piece, kept where the tree is the document's, and else new.
     fn leaf(self, piece: Piece<'t>) -> Leaf<'t>
         ensures { leaf_text result ≡ piece.entry.text.now }
     {
@@ -81,6 +82,7 @@ impl<'t> Opener<'t> {
         }
     }
 
+    /// Whitespace, and the comment behind it if there is one.
     fn blank(self, blank: toml_tree::Blank<'t>) -> Blank<'t>
         ensures ws { leaf_text result.ws ≡ blank.entry.ws.text.now }
         ensures comment { option_map leaf_text result.comment ≡ option_map (λ p. p.text.now) blank.entry.comment }
@@ -95,6 +97,7 @@ impl<'t> Opener<'t> {
         }
     }
 
+    /// A gap by its parts, or as one part where it is kept with its lines.
     fn gap(self, gap: &toml_tree::Gap<'t>) -> Result<Gap<'t>, AllocError>
         ensures { OpensGap self.entry.texts (tree_gap gap.now) result }
     {
@@ -140,6 +143,7 @@ impl<'t> Opener<'t> {
         })
     }
 
+    /// A key by its parts.
     fn key(self, key: &toml_tree::Key<'t>) -> Result<Key<'t>, AllocError>
         ensures { IfOk result (IsKeyOpened (tree_key key.now)) }
     {
@@ -157,6 +161,7 @@ impl<'t> Opener<'t> {
         })
     }
 
+    /// A key, and `=` between whitespace.
     fn assign(self, assign: &toml_tree::Assign<'t>) -> Result<Assign<'t>, AllocError>
         ensures { IfOk result (λ a. assign_outlined a ≡ assign_outline (tree_assign assign.now)) }
     {
@@ -185,6 +190,7 @@ impl<'t> Opener<'t> {
         }
     }
 
+    /// The elements of an array, with all that stands around them.
     #[cycle(opening)]
     fn array(self, array: &toml_tree::Array<'t>) -> Result<Entries<'t>, AllocError>
         ensures { OpensArray self.entry.texts (array_tree array.now) result }
@@ -212,6 +218,7 @@ impl<'t> Opener<'t> {
         })
     }
 
+    /// The pairs of an inline table, with all that stands around them.
     #[cycle(opening)]
     fn inline(self, table: &toml_tree::InlineTable<'t>) -> Result<Entries<'t>, AllocError>
         ensures { OpensInline self.entry.texts (inline_tree table.now) result }
@@ -239,6 +246,7 @@ impl<'t> Opener<'t> {
         })
     }
 
+    /// A key/value pair with all that stands in its value.
     #[cycle(opening)]
     fn keyval(self, pair: &toml_tree::KeyVal<'t>) -> Result<KeyVal<'t>, AllocError>
         ensures { OpensKeyVal self.entry.texts (tree_keyval pair.now) result }
@@ -249,6 +257,7 @@ impl<'t> Opener<'t> {
         })
     }
 
+    /// A header between its brackets.
     fn header(
         self,
         brackets: Brackets,
@@ -293,7 +302,7 @@ impl<'t> Opener<'t> {
     }
 }
 
-/// The text of a value of the profile as a part of the working tree, if it is one.
+/// The text of a value of the profile, opened, if it is one.
 pub fn open_value<'t>(
     alloc: Global,
     text: &'t str,

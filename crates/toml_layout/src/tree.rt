@@ -1,5 +1,5 @@
-//! The working tree: the lines of the text as the edits made so far have left them. It has the shapes of the tree of a
-//! document, but its pieces are kept or new.
+//! An opened line, and what is in it, as the edits made so far have left it. It has the shapes of the tree of a document, but
+//! its pieces are kept or new.
 ghost use Rattle.std.specs.Prelude.{◌≡◌, ◌↔◌, ◌++◌, ◌∷◌, [], IfOk, OnOk, IsTrue, None, option_map};
 ghost use Rattle.toml_layout.specs.OpenKinds.{is_tables};
 ghost use Rattle.toml_layout.specs.OpenOutlines.{leaf_text, gap_part_text, gap_read, line as outlined};

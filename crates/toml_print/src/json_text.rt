@@ -61,6 +61,7 @@ fn write_part(
     }
 }
 
+/// Writes an array, its elements in order.
 #[cycle(write)]
 fn write_items(
     writer: &mut Writer,
@@ -80,7 +81,7 @@ fn write_items(
     Ok(())
 }
 
-/// The members are in the order of their names' bytes, which is that of an object's keys.
+/// Writes the members of a table, in the order of their names' bytes, which is that of an object's keys.
 #[cycle(write)]
 fn write_members(
     writer: &mut Writer,

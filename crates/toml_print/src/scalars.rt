@@ -25,6 +25,7 @@ pub(crate) fn write_scalar(
     }
 }
 
+/// Writes a scalar as JSON has it, a date or a time as a string.
 fn write_json_scalar(writer: &mut Writer, scalar: &Scalar) -> Result<(), AllocError>
     ensures { OnOk result (WritesTokens (json_token (scalar_value scalar.now) ∷ []) writer.old writer.new) }
 {
@@ -48,6 +49,7 @@ fn write_float(writer: &mut Writer, text: &str) -> Result<(), AllocError>
     writer.string(text)
 }
 
+/// Writes a scalar as an object of its type and its text.
 fn write_tagged_scalar(writer: &mut Writer, scalar: &Scalar) -> Result<(), AllocError>
     ensures { OnOk result (WritesTokens
         (told_tokens (tag_of (scalar_value scalar.now)) (text_of (scalar_value scalar.now))) writer.old writer.new) }

@@ -21,6 +21,7 @@ pub fn tagged(alloc: Global, data: &Data) -> Result<Value, AllocError>
     tagged_datum(alloc, &data.root)
 }
 
+/// A datum as tagged JSON.
 #[cycle(tagged)]
 fn tagged_datum(alloc: Global, datum: &Datum) -> Result<Value, AllocError>
     ensures { IfOk result (λ j. IsTagged (kind_at datum.now) (view j)) }
@@ -32,6 +33,7 @@ fn tagged_datum(alloc: Global, datum: &Datum) -> Result<Value, AllocError>
     }
 }
 
+/// The elements of an array as tagged JSON, in order.
 #[cycle(tagged)]
 fn tagged_items(alloc: Global, items: &[Datum]) -> Result<Vec<Value>, AllocError>
     ensures { IfOk result (λ list.
@@ -44,6 +46,7 @@ fn tagged_items(alloc: Global, items: &[Datum]) -> Result<Vec<Value>, AllocError
     Ok(list)
 }
 
+/// The members of a table as tagged JSON, by their names.
 #[cycle(tagged)]
 fn tagged_members(
     alloc: Global,
@@ -60,6 +63,7 @@ fn tagged_members(
     Ok(found)
 }
 
+/// A scalar as an object of its type and its text.
 fn tagged_scalar(alloc: Global, scalar: &Scalar) -> Result<Value, AllocError>
     ensures { let v = scalar_value scalar.now in IfOk result (λ j. view j ≡ object (told (tag_of v) (text_of v))) }
 {
@@ -84,6 +88,7 @@ pub fn moment_tag(kind: MomentKind) -> &'static str
     }
 }
 
+/// An object of a type and a text.
 fn tell(alloc: Global, tag: &str, text: &str) -> Result<Value, AllocError>
     ensures { IfOk result (λ j. view j ≡ object (told tag.now text.now)) }
 {

@@ -52,6 +52,7 @@ pub fn scalar_of(alloc: Global, kind: ScalarKind, run: &str) -> Result<Option<Sc
     }
 }
 
+/// The value of a text, if it is a string.
 #[tactic(auto, unfolding(crate::specs::Values::scalar_of))]
 fn read_text(alloc: Global, run: &str) -> Result<Option<Scalar>, AllocError>
     ensures { Reads (scalar_of kinds.Text run.now) result }
@@ -59,6 +60,7 @@ fn read_text(alloc: Global, run: &str) -> Result<Option<Scalar>, AllocError>
     Ok(read_string(alloc, run)?.map(Scalar::Text))
 }
 
+/// The value of a text, if it is an integer in range.
 #[tactic(auto, using(crate::proofs::Integers::fits_sound, crate::proofs::Integers::fits_complete), unfolding(crate::specs::Values::scalar_of))]
 fn read_number(run: &[u8]) -> Option<Scalar>
     ensures { option_map scalar_value result ≡ scalar_of kinds.Integer run.now }
@@ -69,6 +71,7 @@ fn read_number(run: &[u8]) -> Option<Scalar>
     Some(Scalar::Integer(read_integer(run)?))
 }
 
+/// The value of a text, if it is a float.
 #[tactic(auto, unfolding(crate::specs::Values::scalar_of))]
 fn read_float(alloc: Global, run: &str) -> Result<Option<Scalar>, AllocError>
     ensures { Reads (scalar_of kinds.Float run.now) result }
@@ -80,6 +83,7 @@ fn read_float(alloc: Global, run: &str) -> Result<Option<Scalar>, AllocError>
     Ok(Some(Scalar::Float(FloatText { text })))
 }
 
+/// The value of a text, if it is a boolean.
 #[tactic(auto, unfolding(crate::specs::Values::scalar_of))]
 fn read_truth(run: &[u8]) -> Option<Scalar>
     ensures { option_map scalar_value result ≡ scalar_of kinds.Bool run.now }
@@ -87,6 +91,7 @@ fn read_truth(run: &[u8]) -> Option<Scalar>
     Some(Scalar::Bool(read_bool(run)?))
 }
 
+/// The value of a text, if it is a date or a time of the kind.
 #[tactic(auto, unfolding(crate::specs::Values::scalar_of))]
 fn read_moment(alloc: Global, run: &str, kind: MomentKind) -> Result<Option<Scalar>, AllocError>
     ensures { Reads (scalar_of (kinds.Moment kind) run.now) result }

@@ -10,6 +10,7 @@ use crate::piece::Blank;
 use crate::tree::{Assign, Dotted, Expr, Header, Key, KeyVal, Value};
 use std::alloc::{AllocError, Global};
 
+/// Adds whitespace, and the comment behind it if there is one.
 fn push_blank(out: &mut String, b: &Blank<'_>) -> Result<(), AllocError>
     ensures { OnOk result (string_bytes out.new ≡ string_bytes out.old ++ joined (blank_parts (blank b.now))) }
 {
@@ -20,6 +21,7 @@ fn push_blank(out: &mut String, b: &Blank<'_>) -> Result<(), AllocError>
     Ok(())
 }
 
+/// Adds a dot between whitespace, and the key part behind it.
 fn push_dotted(out: &mut String, d: &Dotted<'_>) -> Result<(), AllocError>
     ensures { OnOk result (string_bytes out.new ≡ string_bytes out.old ++ joined (dotted_parts (dotted d.now))) }
 {
@@ -30,6 +32,7 @@ fn push_dotted(out: &mut String, d: &Dotted<'_>) -> Result<(), AllocError>
     Ok(())
 }
 
+/// Adds the text of a key.
 fn push_key(out: &mut String, k: &Key<'_>) -> Result<(), AllocError>
     ensures { OnOk result (string_bytes out.new ≡ string_bytes out.old ++ joined (key_parts (key k.now))) }
 {
@@ -40,6 +43,7 @@ fn push_key(out: &mut String, k: &Key<'_>) -> Result<(), AllocError>
     Ok(())
 }
 
+/// Adds `=` between whitespace.
 fn push_equals(out: &mut String, a: &Assign<'_>) -> Result<(), AllocError>
     ensures { OnOk result (string_bytes out.new ≡ string_bytes out.old ++ joined (equals_parts (piece a.now.before_equals) (piece a.now.after_equals))) }
 {
@@ -49,6 +53,7 @@ fn push_equals(out: &mut String, a: &Assign<'_>) -> Result<(), AllocError>
     Ok(())
 }
 
+/// Adds a key, and `=` between whitespace.
 fn push_assign(out: &mut String, a: &Assign<'_>) -> Result<(), AllocError>
     ensures { OnOk result (string_bytes out.new ≡ string_bytes out.old ++ joined (assign_parts (assign a.now))) }
 {
@@ -57,7 +62,7 @@ fn push_assign(out: &mut String, a: &Assign<'_>) -> Result<(), AllocError>
     Ok(())
 }
 
-/// An array's and an inline table's text is that of its piece.
+/// Adds the text of a value: an array's and an inline table's is that of its piece.
 fn push_value(out: &mut String, v: &Value<'_>) -> Result<(), AllocError>
     requires { ∥ IsValue (value v.now) ∥₁ }
     ensures { OnOk result (string_bytes out.new ≡ string_bytes out.old ++ joined (value_parts (value v.now))) }
@@ -71,6 +76,7 @@ fn push_value(out: &mut String, v: &Value<'_>) -> Result<(), AllocError>
     Ok(())
 }
 
+/// Adds the text of a key/value pair.
 fn push_keyval(out: &mut String, k: &KeyVal<'_>) -> Result<(), AllocError>
     requires { ∥ IsKeyVal (keyval k.now) ∥₁ }
     ensures { OnOk result (string_bytes out.new ≡ string_bytes out.old ++ joined (keyval_parts (keyval k.now))) }
@@ -80,6 +86,7 @@ fn push_keyval(out: &mut String, k: &KeyVal<'_>) -> Result<(), AllocError>
     Ok(())
 }
 
+/// Adds the header of a table.
 fn push_header(out: &mut String, h: &Header<'_>) -> Result<(), AllocError>
     ensures { OnOk result (string_bytes out.new ≡ string_bytes out.old ++ joined (header_parts (header h.now))) }
 {
@@ -91,6 +98,7 @@ fn push_header(out: &mut String, h: &Header<'_>) -> Result<(), AllocError>
     Ok(())
 }
 
+/// Adds the header of an array of tables.
 fn push_array_header(out: &mut String, h: &Header<'_>) -> Result<(), AllocError>
     ensures { OnOk result (string_bytes out.new ≡ string_bytes out.old ++ joined (array_header_parts (header h.now))) }
 {
@@ -100,6 +108,7 @@ fn push_array_header(out: &mut String, h: &Header<'_>) -> Result<(), AllocError>
     Ok(())
 }
 
+/// Adds what stands on a line.
 fn push_expr(out: &mut String, e: &Expr<'_>) -> Result<(), AllocError>
     requires { ∥ IsExpr (expr e.now) ∥₁ }
     ensures { OnOk result (string_bytes out.new ≡ string_bytes out.old ++ joined (expr_parts (expr e.now))) }
@@ -127,6 +136,7 @@ fn push_expr(out: &mut String, e: &Expr<'_>) -> Result<(), AllocError>
     }
 }
 
+/// Adds a line with its newline.
 fn push_line(out: &mut String, l: &Line<'_>) -> Result<(), AllocError>
     ensures { OnOk result (string_bytes out.new ≡ string_bytes out.old ++ joined (line_parts (line l.now))) }
 {

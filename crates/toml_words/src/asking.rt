@@ -29,8 +29,8 @@ static LAYOUTS: [&str; 2] = ["plain", "follow"];
 pub enum WordsFault {
     /// What the parser answers to the words: a mistake in them, the text for who asks for help, or want of memory.
     Parser(clap::Error),
-    /// The parser took the words, and they ask for nothing: two ways to print exclude each other, two files are standard input, or
-    /// what is to be changed in place is.
+    /// The parser took the words, and they ask for nothing: two ways to print exclude each other, two files are standard input,
+    /// what is to be changed in place is, or a path or a place begins with a hyphen.
     Nothing,
     /// There was no memory.
     NoMemory,
@@ -52,6 +52,7 @@ pub fn read_words<'a>(alloc: Global, words: &'a [&'a str]) -> Result<Request<'a>
     }
 }
 
+/// What the parser finds in the words, with these words for the profiles and the layouts.
 fn parse<'a>(
     alloc: Global,
     words: &'a [&'a str],
@@ -107,7 +108,7 @@ fn editing_request<'a>(name: &str, found: &ArgMatches<'a>) -> Option<Request<'a>
     }
 }
 
-/// What the others ask, of which each has no list of files.
+/// What the other subcommands ask, those that have no list of files.
 fn reading_request<'a>(name: &str, found: &ArgMatches<'a>) -> Option<Request<'a>>
     ensures { option_map asked_by result ≡ reading_of name.now (rows_of (found_of found.now)) }
 {
@@ -122,6 +123,7 @@ fn reading_request<'a>(name: &str, found: &ArgMatches<'a>) -> Option<Request<'a>
     }
 }
 
+/// What `get` asks, if at most one form is given.
 fn get_request<'a>(found: &ArgMatches<'a>) -> Option<Request<'a>>
     ensures { option_map asked_by result ≡ get_of (rows_of (found_of found.now)) }
 {
@@ -151,6 +153,7 @@ fn form_given(found: &ArgMatches<'_>) -> Option<Form>
     )
 }
 
+/// The form of the one flag that is set, or plain where none is; two give no form.
 fn chosen(json: bool, tagged: bool, toml: bool, kind: bool) -> Option<Form>
     ensures { result ≡ chosen json tagged toml kind }
 {
@@ -164,6 +167,7 @@ fn chosen(json: bool, tagged: bool, toml: bool, kind: bool) -> Option<Form>
     }
 }
 
+/// What `set` asks: a value for a place of a file.
 fn set_request<'a>(found: &ArgMatches<'a>) -> Option<Request<'a>>
     ensures { option_map asked_by result ≡ set_of (rows_of (found_of found.now)) }
 {
@@ -172,6 +176,7 @@ fn set_request<'a>(found: &ArgMatches<'a>) -> Option<Request<'a>>
     one_request(found, OneEdit::Set { value, parents })
 }
 
+/// What `insert` asks: a new member or element at a place of a file.
 fn insert_request<'a>(found: &ArgMatches<'a>) -> Option<Request<'a>>
     ensures { option_map asked_by result ≡ insert_of (rows_of (found_of found.now)) }
 {
@@ -180,6 +185,7 @@ fn insert_request<'a>(found: &ArgMatches<'a>) -> Option<Request<'a>>
     one_request(found, OneEdit::Insert { value, parents })
 }
 
+/// What `rename` asks: another name for the member at a place of a file.
 fn rename_request<'a>(found: &ArgMatches<'a>) -> Option<Request<'a>>
     ensures { option_map asked_by result ≡ rename_of (rows_of (found_of found.now)) }
 {
@@ -187,6 +193,7 @@ fn rename_request<'a>(found: &ArgMatches<'a>) -> Option<Request<'a>>
     one_request(found, OneEdit::Rename { to })
 }
 
+/// What `remove` asks: that what stands at a place of a file goes.
 fn remove_request<'a>(found: &ArgMatches<'a>) -> Option<Request<'a>>
     ensures { option_map asked_by result ≡ remove_of (rows_of (found_of found.now)) }
 {
@@ -252,6 +259,7 @@ fn certificate_given<'a>(found: &ArgMatches<'a>) -> Option<Option<&'a str>>
     }
 }
 
+/// What `apply` asks, if the file and the list of edits are not both standard input.
 fn apply_request<'a>(found: &ArgMatches<'a>) -> Option<Request<'a>>
     ensures { option_map asked_by result ≡ apply_of (rows_of (found_of found.now)) }
 {
@@ -272,6 +280,7 @@ fn apply_request<'a>(found: &ArgMatches<'a>) -> Option<Request<'a>>
     })
 }
 
+/// What `validate` asks, if at most one of the files is standard input.
 fn validate_request<'a>(
     alloc: Global,
     found: &ArgMatches<'a>,
@@ -306,6 +315,7 @@ fn inputs(files: &[&str]) -> usize
     count
 }
 
+/// What `show` asks: the data of a file, or the list of its addresses.
 fn show_request<'a>(found: &ArgMatches<'a>) -> Option<Request<'a>>
     ensures { option_map asked_by result ≡ show_of (rows_of (found_of found.now)) }
 {
@@ -321,6 +331,7 @@ fn show_request<'a>(found: &ArgMatches<'a>) -> Option<Request<'a>>
     })
 }
 
+/// What `check` asks: whether a file is a TOML document.
 fn check_request<'a>(found: &ArgMatches<'a>) -> Option<Request<'a>>
     ensures { option_map asked_by result ≡ check_of (rows_of (found_of found.now)) }
 {
@@ -334,6 +345,7 @@ fn check_request<'a>(found: &ArgMatches<'a>) -> Option<Request<'a>>
     })
 }
 
+/// What `edit` asks: what edits make of a file, and the certificate which shows it.
 fn edit_request<'a>(found: &ArgMatches<'a>) -> Option<Request<'a>>
     ensures { option_map asked_by result ≡ edit_of (rows_of (found_of found.now)) }
 {
@@ -353,6 +365,7 @@ fn edit_request<'a>(found: &ArgMatches<'a>) -> Option<Request<'a>>
     })
 }
 
+/// What `verify` asks: whether a text is what edits make of another, as a certificate has it.
 fn verify_request<'a>(found: &ArgMatches<'a>) -> Option<Request<'a>>
     ensures { option_map asked_by result ≡ verify_of (rows_of (found_of found.now)) }
 {
@@ -372,6 +385,7 @@ fn verify_request<'a>(found: &ArgMatches<'a>) -> Option<Request<'a>>
     })
 }
 
+/// What `certify` asks, if at most one of its three inputs is standard input.
 fn certify_request<'a>(found: &ArgMatches<'a>) -> Option<Request<'a>>
     ensures { option_map asked_by result ≡ certify_of (rows_of (found_of found.now)) }
 {

@@ -69,6 +69,7 @@ fn explain<'a>(alloc: Global) -> Arg<'a>
     flag(alloc, "explain", "Say of a refusal where and why")
 }
 
+/// The command `get`, which prints what stands at a place.
 pub(crate) fn get_command<'a>(
     alloc: Global,
     profiles: &'a [&'a str],
@@ -102,6 +103,7 @@ pub(crate) fn get_command<'a>(
     command(alloc, usage, arguments)
 }
 
+/// The command `set`, which sets the value at a place.
 pub(crate) fn set_command<'a>(
     alloc: Global,
     profiles: &'a [&'a str],
@@ -132,6 +134,7 @@ pub(crate) fn set_command<'a>(
     command(alloc, usage, arguments)
 }
 
+/// The command `insert`, which puts in a new member or element.
 pub(crate) fn insert_command<'a>(
     alloc: Global,
     profiles: &'a [&'a str],
@@ -162,6 +165,7 @@ pub(crate) fn insert_command<'a>(
     command(alloc, usage, arguments)
 }
 
+/// The command `rename`, which gives a member another name.
 pub(crate) fn rename_command<'a>(
     alloc: Global,
     profiles: &'a [&'a str],
@@ -186,6 +190,7 @@ pub(crate) fn rename_command<'a>(
     command(alloc, usage, arguments)
 }
 
+/// The command `remove`, which takes out what stands at a place.
 pub(crate) fn remove_command<'a>(
     alloc: Global,
     profiles: &'a [&'a str],
@@ -209,6 +214,7 @@ pub(crate) fn remove_command<'a>(
     command(alloc, usage, arguments)
 }
 
+/// The command `apply`, which makes a list of edits in a document.
 pub(crate) fn apply_command<'a>(
     alloc: Global,
     profiles: &'a [&'a str],
@@ -236,6 +242,7 @@ pub(crate) fn apply_command<'a>(
     command(alloc, usage, arguments)
 }
 
+/// The command `validate`, which says which files are no documents, and why.
 pub(crate) fn validate_command<'a>(
     alloc: Global,
     profiles: &'a [&'a str],
@@ -258,6 +265,7 @@ pub(crate) fn validate_command<'a>(
     command(alloc, usage, arguments)
 }
 
+/// The command `check`, which says whether a file is a document.
 pub(crate) fn check_command<'a>(
     alloc: Global,
     profiles: &'a [&'a str],
@@ -277,6 +285,7 @@ pub(crate) fn check_command<'a>(
     command(alloc, usage, arguments)
 }
 
+/// The command `show`, which prints the data of a document.
 pub(crate) fn show_command<'a>(
     alloc: Global,
     profiles: &'a [&'a str],
@@ -297,6 +306,7 @@ pub(crate) fn show_command<'a>(
     command(alloc, usage, arguments)
 }
 
+/// The command `edit`, which writes an edited document and its certificate to files.
 pub(crate) fn edit_command<'a>(
     alloc: Global,
     profiles: &'a [&'a str],
@@ -319,6 +329,7 @@ pub(crate) fn edit_command<'a>(
     command(alloc, usage, arguments)
 }
 
+/// The command `verify`, which judges an edited document by its certificate.
 pub(crate) fn verify_command<'a>(
     alloc: Global,
     profiles: &'a [&'a str],
@@ -341,6 +352,7 @@ pub(crate) fn verify_command<'a>(
     command(alloc, usage, arguments)
 }
 
+/// The command `certify`, which judges an edited document without a certificate.
 pub(crate) fn certify_command<'a>(
     alloc: Global,
     profiles: &'a [&'a str],

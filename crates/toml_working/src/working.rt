@@ -100,6 +100,7 @@ impl<'x> Tree<'x> {
         })
     }
 
+    /// The memory for what is new in the tree.
     pub(crate) fn alloc(&self) -> Global {
         self.texts.alloc
     }

@@ -34,6 +34,7 @@ impl<'t> Tree<'t> {
 }
 
 impl<'t> Pieces<'t> {
+    /// Writes the lines that now stand in a slot.
     fn slot(&mut self, slot: &Slot<'t>) -> Result<(), AllocError>
         ensures before { self.new.before ≡ self.old.before }
         ensures written { (text : List ℕ) → SpellsSlot self.old.before slot.now text → Writes text self.old self.new result }
@@ -44,6 +45,7 @@ impl<'t> Pieces<'t> {
         }
     }
 
+    /// Writes lines, one after the other.
     fn lines(&mut self, lines: &[Line<'t>]) -> Result<(), AllocError>
         ensures before { self.new.before ≡ self.old.before }
         ensures written { (text : List ℕ) → SpellAll (SpellsLine self.old.before) lines.now text → Writes text self.old self.new result }
@@ -54,6 +56,7 @@ impl<'t> Pieces<'t> {
         Ok(())
     }
 
+    /// Writes a line, or keeps its span where it is as it was.
     fn line(&mut self, line: &Line<'t>) -> Result<(), AllocError>
         ensures before { self.new.before ≡ self.old.before }
         ensures written { (text : List ℕ) → SpellsLine self.old.before line.now text → Writes text self.old self.new result }
@@ -64,6 +67,7 @@ impl<'t> Pieces<'t> {
         }
     }
 
+    /// Writes an opened line, with its newline.
     fn open_line(&mut self, line: &OpenLine<'t>) -> Result<(), AllocError>
         ensures { Writes (line_outlined (line_outline line.now)) self.old self.new result }
     {
@@ -81,6 +85,7 @@ impl<'t> Pieces<'t> {
         self.leaf(line.newline)
     }
 
+    /// Writes a header between its brackets.
     fn header(&mut self, header: &Header<'t>) -> Result<(), AllocError>
         ensures { Writes (expr_outlined (header_outline header.now)) self.old self.new result }
     {
@@ -95,6 +100,7 @@ impl<'t> Pieces<'t> {
         self.symbol(closing)
     }
 
+    /// Writes whitespace, and the comment behind it if there is one.
     fn blank(&mut self, blank: &Blank<'t>) -> Result<(), AllocError>
         ensures { Writes (blank_text blank.now) self.old self.new result }
     {
@@ -105,6 +111,7 @@ impl<'t> Pieces<'t> {
         }
     }
 
+    /// Writes a key, each dot between whitespace.
     fn key(&mut self, key: &Key<'t>) -> Result<(), AllocError>
         ensures { Writes (key_text key.now) self.old self.new result }
     {
@@ -118,6 +125,7 @@ impl<'t> Pieces<'t> {
         Ok(())
     }
 
+    /// Writes a key, and `=` between whitespace.
     fn assign(&mut self, assign: &Assign<'t>) -> Result<(), AllocError>
         ensures { Writes (assign_outlined (assign_outline assign.now)) self.old self.new result }
     {
@@ -127,6 +135,7 @@ impl<'t> Pieces<'t> {
         self.leaf(assign.after_equals)
     }
 
+    /// Writes a value with all that stands in it.
     #[cycle(writing)]
     fn value(&mut self, value: &Value<'t>) -> Result<(), AllocError>
         ensures { Writes (value_outlined (value_outline value.now)) self.old self.new result }
@@ -146,6 +155,7 @@ impl<'t> Pieces<'t> {
         }
     }
 
+    /// Writes entries with their commas, and what stands behind the last one.
     #[cycle(writing)]
     fn entries(&mut self, entries: &Entries<'t>) -> Result<(), AllocError>
         ensures { Writes (entries_outlined false (entries_outline entries.now).entries) self.old self.new result }
@@ -169,6 +179,7 @@ impl<'t> Pieces<'t> {
         Ok(())
     }
 
+    /// Writes an entry, and the gaps around it.
     #[cycle(writing)]
     fn entry(&mut self, entry: &Entry<'t>) -> Result<(), AllocError>
         ensures { Writes (entry_outlined (entry_outline entry.now)) self.old self.new result }
@@ -181,6 +192,7 @@ impl<'t> Pieces<'t> {
         self.gap(&entry.after)
     }
 
+    /// Writes a gap by its parts.
     fn gap(&mut self, gap: &Gap<'t>) -> Result<(), AllocError>
         ensures { Writes (parts_outlined (gap_read gap.now)) self.old self.new result }
     {

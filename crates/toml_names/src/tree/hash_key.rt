@@ -65,6 +65,7 @@ pub(crate) fn key_in(value: &Value<'_>) -> u64 {
     hasher.finish()
 }
 
+/// Feeds the hasher the key parts that stand on a line.
 fn feed_line(hasher: &mut DefaultHasher, line: &Line<'_>) {
     match line.expr() {
         Expr::Blank(_) => {}
@@ -73,6 +74,7 @@ fn feed_line(hasher: &mut DefaultHasher, line: &Line<'_>) {
     }
 }
 
+/// Feeds the hasher the parts of a key.
 fn feed_key(hasher: &mut DefaultHasher, key: &Key<'_>) {
     feed_part(hasher, &key.first);
     for dotted in &key.rest {
@@ -86,12 +88,14 @@ fn feed_part(hasher: &mut DefaultHasher, part: &Piece<'_>) {
     hasher.write_u8(0xFF);
 }
 
+/// Feeds the hasher the parts of a pair's key, and then the key parts that stand in its value.
 #[cycle(feeding)]
 fn feed_pair(hasher: &mut DefaultHasher, pair: &KeyVal<'_>) {
     feed_key(hasher, &pair.assign.key);
     feed_value(hasher, &pair.value);
 }
 
+/// Feeds the hasher the key parts that stand in a value.
 #[cycle(feeding)]
 fn feed_value(hasher: &mut DefaultHasher, value: &Value<'_>) {
     match value {
