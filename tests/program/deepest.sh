@@ -1,4 +1,4 @@
-# The deepest texts, under a stack of 288 KiB. The last part of ../program.sh, since that limit stays.
+# The deepest texts, under a stack of 256 KiB. The last part of ../program.sh, since that limit stays.
 deep() {
   local count
   for count in $(seq "$1"); do printf '%s' "$2"; done
@@ -55,7 +55,11 @@ deepest_at() {
   run 1 - 'refused 30*' insert "$text.toml" "$place.z" 1 "$@"
   run 0 'a*' - remove "$text.toml" "$place" "$@"
 }
-ulimit -s 288
+# The environment lies on the stack too, so no more of it is left than PATH.
+for name in $(compgen -e); do
+  if [ "$name" != PATH ]; then unset "$name"; fi
+done
+ulimit -s 256
 for text in arrays tables key; do
   deepest "$text"
   deepest "$text" --profile 2
