@@ -201,7 +201,7 @@ clash_on e (s ∷ xs) ys none =
     first_none (Some x) b h = absurd (none-some x (sym h))
 
 -- lines up to one
-take_get : (ls : List Line) (n : ℕ) (l : Line) → slice_get ls n ≡ Some l → take (suc n) ls ≡ take n ls ++ l ∷ []
+pub take_get : (ls : List Line) (n : ℕ) (l : Line) → slice_get ls n ≡ Some l → take (suc n) ls ≡ take n ls ++ l ∷ []
 take_get [] n l h = absurd (none-some l h)
 take_get (k ∷ ls) zero l h = let same : k ≡ l = cc in ap (λ m. m ∷ []) same
 take_get (k ∷ ls) (suc n) l h = ap (λ r. k ∷ r) (take_get ls n l h)

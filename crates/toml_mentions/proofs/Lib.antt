@@ -8,3 +8,4 @@ pub mod Parted
 pub mod Clashes
 pub mod Found
 pub mod Taken
+pub mod Offended

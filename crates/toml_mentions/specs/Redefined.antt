@@ -55,3 +55,13 @@ JudgedAt profile text found = (lines : List Line) (number : ℕ) (at : Address) 
 abbrev pub address_told : ReadFault → Option Address
 address_told (faults.Names (names.Redefined line at)) = Some at
 address_told _ = None
+
+-- Laws: where the names of a text are refused since a line breaks the table rules, a key part stands for the mention that breaks them,
+abbrev pub OffenceStands : Type 0
+OffenceStands = (profile : Profile) (bytes : List ℕ) (lines : List Line) (number : ℕ) (at : Address) → IsText bytes → AreLinesIn profile bytes lines
+    → IsRedefined lines number at → (p : Piece) × StandsForOffence profile bytes number p
+
+-- and that mention clashes with an earlier one.
+abbrev pub OffenceClashes : Type 0
+OffenceClashes = (profile : Profile) (bytes : List ℕ) (lines : List Line) (number : ℕ) (at : Address) → IsText bytes → AreLinesIn profile bytes lines
+    → IsRedefined lines number at → (first : Sight) × (again : Sight) × AreClashing profile bytes number first again

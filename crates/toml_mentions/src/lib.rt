@@ -1,6 +1,7 @@
 //! Where a text mentions an address: which part of which key names it, in which role, and which mention of it breaks the table rules.
 #![tactic(auto)]
 
+pub mod laws;
 mod redefined;
 mod role;
 mod seeker;
