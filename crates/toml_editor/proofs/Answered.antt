@@ -11,6 +11,10 @@ pub if_ok_with : {X E : Type 0} (P : Type 0) (Q : X → Type 0) (r : Result X E)
 if_ok_with P Q (Ok x) p q = (p, q)
 if_ok_with P Q (Err e) p q = tt
 
+pub if_ok_and : {X E : Type 0} (P : X → Type 0) (Q : Type 0) (r : Result X E) → IfOk r P → OnOk r Q → IfOk r (λ x. P x × Q)
+if_ok_and P Q (Ok x) p q = (p, q)
+if_ok_and P Q (Err e) p q = tt
+
 -- what follows of two things that hold wherever there is one, and of two or three that are said of it
 pub if_ok_both : {X E : Type 0} (P Q : Type 0) (R : X → Type 0) (r : Result X E) → ((x : X) → P → Q → R x) → OnOk r P → OnOk r Q → IfOk r R
 if_ok_both P Q R (Ok x) f p q = f x p q

@@ -1,9 +1,12 @@
 -- The making of edits, one after the other, and the texts for which the working tree then stands.
-use Rattle.std.proofs.Common.{◌≡◌, ◌⊎◌, ◌+◌, ◌<◌, ◌≤◌, inl, inr, ℕ, Bool, List, [], ◌∷◌, ◌++◌, take, true, false, true≢false, None, Some, refl, sym, ap, ap₂, subst, subst₂, ◌∙◌, arith}
+use Rattle.std.proofs.Common.{◌≡◌, ◌⊎◌, ◌+◌, ◌<◌, ◌≤◌, inl, inr, ℕ, Bool, List, [], ◌∷◌, ◌++◌, drop, length, map, take, true, false, true≢false, None, Some, refl, sym, ap, ap₂, subst, subst₂, ◌∙◌, arith}
 use Rattle.std.proofs.lemmas.Bool.{cases_lt}
 use Rattle.std.proofs.lemmas.Option.{same_Some}
 use Rattle.std.proofs.Math.Path.{fun_ext}
-use Rattle.std.specs.Prelude.{slice_get}
+use Rattle.std.specs.Prelude.{slice_get, string_bytes}
+use Rattle.std.specs.declared.alloc.Global.{Global}
+use Rattle.std.specs.declared.string.String.{String}
+use Rattle.toml_scalar.specs.Spelling.{spelled as spelled_name}
 use Rattle.std.specs.List.{list_any}
 use Rattle.toml_tree.proofs.Proved.{one_tree}
 use Rattle.toml_tree.specs.Profiles.{SpellsIn}
@@ -12,7 +15,7 @@ use Rattle.toml_tree.specs.Tree.{Doc, Line}
 use Rattle.toml_tree.specs.declared.profile.Profile.{Profile}
 use Rattle.toml_names.specs.declared.model.address.Step.{Step}
 use Rattle.toml_names.specs.declared.model.address.Step.TheVariants.{Index, Name}
-use Rattle.toml_names.specs.model.Addresses.{Address, element}
+use Rattle.toml_names.specs.model.Addresses.{Address, child, element}
 use Rattle.toml_names.specs.model.Data.{Kinds}
 use Rattle.toml_edits.specs.After.{IsAfter}
 use Rattle.toml_edits.specs.Faults.{IsFault}
@@ -25,9 +28,9 @@ use Rattle.toml_working.specs.declared.working.Tree.{Tree}
 use Rattle.toml_editor.specs.CertifiedLists.{ArePlain}
 use Rattle.toml_editor.specs.Edited.{MayBeSpread, TakesLastElement}
 use Rattle.toml_working.specs.InValues.{Places}
-use Rattle.toml_editor.specs.LastTexts.{ChangesLines, IsHeldOrUndotted, IsPutThere}
-use Rattle.toml_editor.specs.Exact.{Follows, HoldsLast, HoldsOne, IsAt, IsOnePlace, IsSpreadOn, IsNeitherAt, IsNeitherOn, MakesAll, MakesOne, OfPlain, OfNoPlaceAt, PassesAll, PassesAt, PassesOne, Stops, WritesEdit}
-use Rattle.toml_working.specs.Putting.{manner}
+use Rattle.toml_editor.specs.LastTexts.{IsPutThere}
+use Rattle.toml_editor.specs.Exact.{Follows, HoldsOne, IsAt, IsOnePlace, IsSpreadOn, IsNeitherAt, IsNeitherOn, LastMakesAs, BelowOne, MakesAll, MakesAs, MakesOne, OfPlain, OfNoPlaceAt, PassesAll, PassesAt, PassesOne, Stops, WritesEdit}
+use Rattle.toml_working.specs.Putting.{IsNameIn, manner}
 use Rattle.toml_editor.specs.Making.{TellsOne}
 use Rattle.toml_editor.specs.PlainTexts.{HasContainerFor, IsPlainOrHeld, IsPlainOn}
 use Rattle.toml_text.specs.Source.{text_of}
@@ -37,6 +40,7 @@ use Rattle.toml_working.specs.HeldLines.{has_container_at}
 use Rattle.toml_working.specs.RemoveStanding.{remove_standing}
 use Rattle.toml_working.specs.Standing.{Read, Standing, holds, standing}
 use Rattle.toml_working.specs.Stands.{Stands}
+use Rattle.toml_editor.specs.SpelledEdits.{AreSteps, step_spelled}
 use Rattle.toml_editor.specs.Steps.{AreWritten}
 use Rattle.toml_working.specs.Written.{IsWritten}
 use Rattle.toml_editor.proofs.written.Follow.{remove_follows, set_follows, set_is_there}
@@ -62,7 +66,7 @@ pub makes_one : (profile : Profile) (read : Read) (c : Change) (old new : Tree) 
 makes_one profile read (set p value) old new done writes text kinds now at none is_after plain =
     (set_made profile read p value old new done writes text kinds now at none is_after plain).1
 makes_one profile read (insert p value) old new done writes text kinds now at none is_after plain =
-    let (steps, rest, spelled, inserts, inside) = writes at.whole in
+    let (steps, rest, spelled, inserts, inside, below) = writes at.whole in
     let given = is_after.1.value in
     insert_follows profile read old new p value text kinds now at none is_after (plain at.good.tree at.good.spelled) rest
     given.tree given.is_value steps spelled (inserts given.within given.tree given.is_value)
@@ -72,6 +76,16 @@ makes_one profile read (remove p) old new done writes text kinds now at none is_
     remove_follows profile read old new p text kinds now at none is_after (plain at.good.tree at.good.spelled) (writes at.whole).0
 makes_one profile read (new_section p) old new done writes text kinds now at none is_after plain = absurd (plain at.good.tree at.good.spelled)
 makes_one profile read (new_element p) old new done writes text kinds now at none is_after plain = absurd (plain at.good.tree at.good.spelled)
+
+-- the spelling of the last step
+name_spelled : (q : Address) (name : List ℕ) (p : Address) (steps : List (String Global)) → p ≡ child q name → AreSteps p steps
+    → drop (length q) (map string_bytes steps) ≡ spelled_name name ∷ []
+name_spelled q name p steps is spelled =
+    ap (drop (length q)) (spelled ∙ ap (map step_spelled) is) ∙ last_of q
+  where
+    last_of : (r : Address) → drop (length r) (map step_spelled (r ++ Name name ∷ [])) ≡ spelled_name name ∷ []
+    last_of [] = refl
+    last_of (s ∷ r) = last_of r
 
 -- one that changes an array or an inline table in the value of a line, or takes out a line
 put_there : (q : Address) (last : Step) (lines : List Line) → IsPutThere lines q last → list_any (holds q) (standing lines) ≡ true
@@ -87,7 +101,7 @@ put_is_made near p value lines done (inr one) told q (Name n) is there = told �
 pub holds_one : (profile : Profile) (read : Read) (near : Kinds) (c : Change) (old new : Tree) (done : Bool) → WritesEdit profile read c old new done
     → (done ≡ true) ⊎ IsOnePlace c near → HoldsOne profile read c old new
 holds_one profile read near (insert p value) old new done writes either text kinds now at is_after (q, last, is, not_root, there) =
-    let (steps, rest, spelled, inserts, inside) = writes at.whole in
+    let (steps, rest, spelled, inserts, inside, below) = writes at.whole in
     let given = is_after.1.value in
     let lines = at.good.tree.lines in
     let (opened, outlined, holds_it) = inside given.within given.tree given.is_value in
@@ -120,6 +134,23 @@ holds_one profile read near (rename p to) old new done writes either text kinds 
 holds_one profile read near (new_section p) old new done writes either text kinds now at is_after there = absurd there
 holds_one profile read near (new_element p) old new done writes either text kinds now at is_after there = absurd there
 
+-- one that puts a name into a table with a header
+pub below_one : (profile : Profile) (read : Read) (c : Change) (old new : Tree) (done : Bool) → WritesEdit profile read c old new done
+    → BelowOne profile read c old new
+below_one profile read (insert p value) old new done writes text kinds now at is_after (q, name, is, not_root, headed) =
+    let (steps, rest, spelled, inserts, inside, below) = writes at.whole in
+    let given = is_after.1.value in
+    let lines = at.good.tree.lines in
+    let named : IsNameIn q name p steps = record { at_is = is; steps_is = name_spelled q name p steps is spelled } in
+    let (ts, stands, put) = below given.within given.tree given.is_value q (Name name) is not_root name named (standing lines) at.stands
+    (rules_order lines at.good.good.0) headed in
+    (ts, stands, record { table = q; name = name; is = is; tree = given.tree; is_value = given.is_value; put = put })
+below_one profile read (set p value) old new done writes text kinds now at is_after there = absurd there
+below_one profile read (rename p to) old new done writes text kinds now at is_after there = absurd there
+below_one profile read (remove p) old new done writes text kinds now at is_after there = absurd there
+below_one profile read (new_section p) old new done writes text kinds now at is_after there = absurd there
+below_one profile read (new_element p) old new done writes text kinds now at is_after there = absurd there
+
 -- ---- edits that are not made
 
 no_element : (q : Address) (i : ℕ) (name : List ℕ) → ¬ (element q i ≡ Name name ∷ [])
@@ -132,7 +163,7 @@ put_is_found : (profile : Profile) (read : Read) (p : Address) (value : List ℕ
     → (text : List ℕ) (kinds now : Kinds) → (at : IsAt profile read old text kinds) → IsAfter profile (insert p value) kinds now
     → HasContainerFor at.good.tree.lines (insert p value) → done ≡ true
 put_is_found profile read p value old new done writes text kinds now at is_after (q, last, is, not_root, held) =
-    let (steps, rest, spelled, inserts, inside) = writes at.whole in
+    let (steps, rest, spelled, inserts, inside, below) = writes at.whole in
     let given = is_after.1.value in
     let lines = at.good.tree.lines in
     let (opened, outlined, holds_it) = inside given.within given.tree given.is_value in
@@ -222,8 +253,9 @@ same_last (a ∷ xs) (b ∷ ys) x y e =
     (ap₂ (λ u v. u ∷ v) first fronts, lasts)
 
 -- no edit is made yet
-pub none_held : (profile : Profile) (read : Read) (tree : Tree) → HoldsLast profile read [] tree tree
-none_held profile read tree front c is = absurd (no_edit front c (sym is))
+pub none_last : (Is : List Line → Change → Type 0) (Makes : Manner → Change → List Standing → List Standing → Type 0) (profile : Profile) (read : Read) (tree : Tree)
+    → LastMakesAs Is Makes profile read [] tree tree
+none_last Is Makes profile read tree front c is = absurd (no_edit front c (sym is))
 
 written_more : (profile : Profile) (cs : List Change) (c : Change) (manner : Manner) (before mid after : List ℕ) → AreWritten profile cs manner before mid
     → IsWritten profile c manner mid after → AreWritten profile (cs ++ c ∷ []) manner before after
@@ -272,10 +304,11 @@ more_made profile read cs c old tree new all makes text kinds now at lead plain 
       source = record { texts = one.source.texts ∙ here.source.texts; mannered = one.source.mannered ∙ here.source.mannered };
     }
 
--- one more is, inside the value of a line
-pub last_held : (profile : Profile) (read : Read) (cs : List Change) (c : Change) (old mid new : Tree) → MakesAll profile read cs old mid
-    → HoldsOne profile read c mid new → HoldsLast profile read (cs ++ c ∷ []) old new
-last_held profile read cs c old mid new makes one front d is text kinds now last at lead is_after plain between written e spells there =
+-- one more is, of which it is told what it makes
+pub last_made : (Is : List Line → Change → Type 0) (Makes : Manner → Change → List Standing → List Standing → Type 0) (profile : Profile) (read : Read)
+    (cs : List Change) (c : Change) (old mid new : Tree) → MakesAll profile read cs old mid → MakesAs Is Makes profile read c mid new
+    → LastMakesAs Is Makes profile read (cs ++ c ∷ []) old new
+last_made Is Makes profile read cs c old mid new makes one front d is text kinds now last at lead is_after plain between written e spells there =
     let (fronts, edits) = same_last cs front c d is in
     let all = makes text kinds now at (subst (λ es. Lead profile es kinds now) (sym fronts) lead)
     (subst (λ es. ArePlain profile es (manner old) text) (sym fronts) plain) in
@@ -283,11 +316,11 @@ last_held profile read cs c old mid new makes one front d is text kinds now last
     (subst (λ es. AreWritten profile es (manner old) text between) (sym fronts) written) in
     let tree_is : all.at.good.tree ≡ e = one_tree all.at.good.tree e all.after all.at.good.spelled.0 (subst (Spells e) (sym text_is) spells.0) in
     let (ts, stands, changed) = one all.after now last all.at (subst (λ x. IsAfter profile x now last) (sym edits) is_after)
-    (subst₂ (λ (x : Doc) y. IsHeldOrUndotted x.lines y) (sym tree_is) (sym edits) there) in (
+    (subst₂ (λ (x : Doc) y. Is x.lines y) (sym tree_is) (sym edits) there) in (
       ts,
       subst (λ t. Stands t read new.slots.items ts) (ap (λ (s : Texts). text_of s.source) all.source.texts) stands,
-      subst (λ l. ChangesLines l profile d (standing e.lines) ts) (ap (λ (s : Texts). s.layout) all.source.texts)
-          (subst₂ (λ (x : Doc) y. ChangesLines mid.texts.layout profile y (standing x.lines) ts) tree_is edits changed),
+      subst (λ m. Makes m d (standing e.lines) ts) all.source.mannered
+          (subst₂ (λ (x : Doc) y. Makes (manner mid) y (standing x.lines) ts) tree_is edits changed),
     )
 
 -- ---- what holds of one edit, where those before it are made

@@ -4,7 +4,7 @@ use Rattle.toml_text.specs.Forms.{IsNewline}
 use Rattle.toml_text.specs.Source.{text_of}
 use Rattle.toml_tree.specs.Profiles.{IsOfProfile, SpellsIn}
 use Rattle.toml_tree.specs.Spells.{Spells, joined, lines_parts}
-use Rattle.toml_tree.specs.Tree.{Piece, Doc}
+use Rattle.toml_tree.specs.Tree.{Piece, Doc, Line}
 use Rattle.toml_tree.specs.declared.profile.Profile.{Profile}
 use Rattle.toml_tree.proofs.Proved.{one_tree, text_is_spelled}
 use Rattle.toml_names.specs.mentions.Mentions.{named}
@@ -16,8 +16,8 @@ use Rattle.toml_edits.specs.Lists.{Lead}
 use Rattle.toml_layout.specs.declared.texts.Texts.{Texts}
 use Rattle.toml_working.specs.declared.working.Tree.{Tree}
 use Rattle.toml_editor.specs.CertifiedLists.{ArePlain}
-use Rattle.toml_editor.specs.LastTexts.{ChangesLines, IsHeldOrUndotted, WritesLast, standing_text}
-use Rattle.toml_editor.specs.Exact.{FollowAll, HoldsLast, IsAt, MakesAll}
+use Rattle.toml_editor.specs.LastTexts.{WritesAs, standing_text}
+use Rattle.toml_editor.specs.Exact.{FollowAll, IsAt, LastMakesAs, MakesAll}
 use Rattle.toml_layout.specs.declared.layout.Layout.{Layout}
 use Rattle.toml_working.specs.Manners.{Manner}
 use Rattle.toml_working.specs.Putting.{manner}
@@ -73,24 +73,24 @@ module _ (profile : Profile) (read : Read) (d : Doc) (before : List ℕ) (tree :
         ∙ ap (λ (m : Piece). m.text ++ joined (lines_parts last.lines)) mark ∙ text_is_spelled last all.after all.at.good.spelled.0
 
     -- where the last edit is of those of which it is told, and those before it are plain, it is the text of what that makes of the lines
-    pub last_written : HoldsLast profile read cs tree new → WritesOut before d.mark.text new.slots.items out → WritesLast layout profile before cs out
-    last_written holds writes = (d, spelled, by)
+    pub last_written : (Is : List Line → Change → Type 0) (Makes : Manner → Change → List Standing → List Standing → Type 0) → LastMakesAs Is Makes profile read cs tree new → WritesOut before d.mark.text new.slots.items out → WritesAs Is Makes layout profile before cs out
+    last_written Is Makes makes writes = (d, spelled, by)
       where
         by : (front : List Change) (c : Change) → cs ≡ front ++ c ∷ [] → ArePlain profile front (manner_of layout d.lines) before
             → (between : List ℕ) → AreWritten profile front (manner_of layout d.lines) before between
-            → (e : Doc) → SpellsIn profile e between → IsHeldOrUndotted e.lines c
-            → (ts : List Standing) × ChangesLines layout profile c (standing e.lines) ts × (out ≡ e.mark.text ++ standing_text ts)
+            → (e : Doc) → SpellsIn profile e between → Is e.lines c
+            → (ts : List Standing) × Makes (manner_of layout d.lines) c (standing e.lines) ts × (out ≡ e.mark.text ++ standing_text ts)
         by front c is plain between written e spells there =
             let first = at old facts in
             let (mid, led, none, is_after) = lead_parted profile front c old now (subst (λ es. Lead profile es old now) is lead) in
             let as_tree = subst (λ m. AreWritten profile front m before between) (sym mannered) written in
-            let (ts, stand, changed) = holds front c is before old mid now first led is_after
+            let (ts, stand, changed) = makes front c is before old mid now first led is_after
             (subst (λ m. ArePlain profile front m before) (sym mannered) plain) between as_tree e spells there in
             let steps = plain_steps profile front (manner tree) before between old mid first.newline first.good led as_tree in
             let tree_is : steps.0.tree ≡ e = one_tree steps.0.tree e between steps.0.spelled.0 spells.0 in
             let mark : d.mark ≡ e.mark = sym steps.1 ∙ ap (λ (x : Doc). x.mark) tree_is in (
               ts,
-              subst (λ l. ChangesLines l profile c (standing e.lines) ts) (ap (λ (m : Manner). m.layout) mannered) changed,
+              subst (λ m. Makes m c (standing e.lines) ts) mannered changed,
               writes read ts (subst (λ t. Stands t read new.slots.items ts) texts stand) ∙ ap (λ (m : Piece). m.text ++ standing_text ts) mark,
             )
 

@@ -1,5 +1,5 @@
--- What is written where, behind plain edits, the last one changes an array or an inline table in the value of a line, or takes out a line
--- whose key is not dotted.
+-- What is written where, behind plain edits, the last one changes an array or an inline table in the value of a line, takes out a line
+-- whose key is not dotted, or puts a name into a table that has a header.
 use Rattle.std.specs.Prelude.{◌≡◌, ◌⊎◌, true, ℕ, List, [], ◌∷◌, ◌++◌, map}
 use Rattle.std.specs.List.{list_any}
 use Rattle.std.specs.declared.alloc.Global.{Global}
@@ -19,7 +19,10 @@ use Rattle.toml_layout.specs.OpenOutlines.{value}
 use Rattle.toml_layout.specs.Outlines.{lines_outlined}
 use Rattle.toml_layout.specs.TreeOutlines.{value_outline}
 use Rattle.toml_working.specs.HeldLines.{SetsEach, has_container_at}
+use Rattle.toml_working.specs.Manners.{Manner}
 use Rattle.toml_working.specs.RemoveStanding.{is_undotted_pair, remove_standing}
+use Rattle.toml_working.specs.Sections.{PutsInSection}
+use Rattle.toml_working.specs.Seeing.{AreHeaded}
 use Rattle.toml_working.specs.Standing.{AreOrdered, Standing, holds, standing}
 use Rattle.toml_working.specs.Written.{manner_of}
 use Rattle.toml_editor.specs.CertifiedLists.{ArePlain}
@@ -80,11 +83,38 @@ IsHeldOrUndotted lines _ = ⊥
 abbrev pub standing_text : List Standing → List ℕ
 standing_text ss = lines_outlined (map (λ (s : Standing). s.outline) ss)
 
--- Where the edits before the last one are plain, and the last one does so on the text that they write, the text is the mark and what the
--- edit makes of the lines.
-abbrev pub WritesLast : Layout → Profile → List ℕ → List Change → List ℕ → Type 0
-WritesLast layout profile before cs after = OfTree before (λ d. (front : List Change) (c : Change) → cs ≡ front ++ c ∷ []
+-- on lines the line of a name was put into the section of the table at the address, with the value of this text, and nothing else has changed
+pub record PutsNamed (profile : Profile) (p : Address) (text : List ℕ) (manner : Manner) (old now : List Standing) : Type 0 where
+  pub table : Address
+  pub name : List ℕ
+  pub is : p ≡ child table name
+  pub tree : Value
+  pub is_value : IsValueIn profile tree text
+  pub put : PutsInSection table name (value_outline tree) manner old now
+
+-- the edit puts a name into a table that is not the root, has a header, and is made by no dotted key
+abbrev pub IsBelowHeader : List Line → Change → Type 0
+IsBelowHeader lines (insert p text) = (q : Address) × (name : List ℕ) × (p ≡ child q name) × (¬ (q ≡ [])) × AreHeaded q (standing lines)
+IsBelowHeader lines _ = ⊥
+
+-- what it makes of lines
+abbrev pub PutsBelowHeader : Profile → Manner → Change → List Standing → List Standing → Type 0
+PutsBelowHeader profile manner (insert p text) old now = PutsNamed profile p text manner old now
+PutsBelowHeader profile manner _ old now = ⊥
+
+-- Where the edits before the last one are plain, and the last one is one of these on the text that they write, the text is the mark and what
+-- that makes of the lines.
+abbrev pub WritesAs : (List Line → Change → Type 0) → (Manner → Change → List Standing → List Standing → Type 0) → Layout → Profile → List ℕ → List Change → List ℕ → Type 0
+WritesAs Is Makes layout profile before cs after = OfTree before (λ d. (front : List Change) (c : Change) → cs ≡ front ++ c ∷ []
     → ArePlain profile front (manner_of layout d.lines) before
     → (between : List ℕ) → AreWritten profile front (manner_of layout d.lines) before between
-    → (e : Doc) → SpellsIn profile e between → IsHeldOrUndotted e.lines c
-    → (now : List Standing) × ChangesLines layout profile c (standing e.lines) now × (after ≡ e.mark.text ++ standing_text now))
+    → (e : Doc) → SpellsIn profile e between → Is e.lines c
+    → (now : List Standing) × Makes (manner_of layout d.lines) c (standing e.lines) now × (after ≡ e.mark.text ++ standing_text now))
+
+-- so it is of edits that change an array or an inline table in a value, or take out a line whose key is not dotted,
+abbrev pub WritesLast : Layout → Profile → List ℕ → List Change → List ℕ → Type 0
+WritesLast layout profile = WritesAs IsHeldOrUndotted (λ (m : Manner). ChangesLines m.layout profile) layout profile
+
+-- and of those that put a name into such a table
+abbrev pub WritesBelowHeader : Layout → Profile → List ℕ → List Change → List ℕ → Type 0
+WritesBelowHeader layout profile = WritesAs IsBelowHeader (PutsBelowHeader profile) layout profile

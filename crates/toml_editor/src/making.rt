@@ -4,7 +4,7 @@ ghost use Rattle.toml_scalar.specs.Spelling.{spelled};
 ghost use Rattle.toml_edits.specs.Drafts.{drafted};
 ghost use Rattle.toml_edits.specs.Edits.{change};
 ghost use Rattle.toml_editor.specs.Edited.{MayBeSpread, TakesLastElement};
-ghost use Rattle.toml_editor.specs.Exact.{IsOnePlace, WritesEdit, WritesInsert, WritesInside, WritesRename, WritesSet};
+ghost use Rattle.toml_editor.specs.Exact.{IsOnePlace, WritesBelow, WritesEdit, WritesInsert, WritesInside, WritesRename, WritesSet};
 ghost use Rattle.toml_editor.specs.Made.{MakesEdit, MakesEdits, RefusesEdit, RefusesEdits, places_in};
 ghost use Rattle.toml_editor.specs.Making.{HasNames, IsMade, IsMany, TellsRow};
 ghost use Rattle.toml_editor.specs.SpelledEdits.{AreSpelled, IsSpelled};
@@ -202,6 +202,8 @@ fn write_insert<'x>(
         OnOk result (WritesInsert read.entry.profile read_here at.now value.now steps.now tree.old tree.new) }
     ensures inside { let read_here = read_of read.entry.before in
         IfOk result (WritesInside read.entry.profile read_here at.now value.now steps.now tree.old tree.new) }
+    ensures below { let read_here = read_of read.entry.before in
+        OnOk result (WritesBelow read.entry.profile read_here at.now value.now steps.now tree.old tree.new) }
 {
     match open_value(alloc, value, read.profile)? {
         Some(new) => {

@@ -1,11 +1,11 @@
 -- Of lines that stand alone at most one holds what stands at an address.
-use Rattle.std.proofs.Common.{◌≡◌, ◌∙◌, ℕ, zero, suc, ◌+◌, ◌<◌, ◌≤◌, Bool, true, false, ◌&&◌, ◌||◌, List, [], ◌∷◌, ◌++◌, length, take, Option, Some, None, refl, ap, sym, subst, arith, append_assoc, append-nil}
-use Rattle.std.specs.Prelude.{option_map, slice_get, is_some, IfSome}
+use Rattle.std.proofs.Common.{◌≡◌, ◌∙◌, ℕ, zero, suc, ◌+◌, ◌<◌, ◌≤◌, Bool, true, false, ◌&&◌, ◌||◌, List, [], ◌∷◌, ◌++◌, length, take, Option, Some, None, refl, ap, sym, subst, arith, append_assoc, append-nil, true≢false}
+use Rattle.std.specs.Prelude.{option_map, slice_get, is_some, ◌^◌, IfSome, MatchOption}
 use Rattle.std.specs.Option.{option_or}
 use Rattle.std.specs.List.{list_any}
 use Rattle.std.proofs.Math.ListN.{set}
 pub use Rattle.std.proofs.lemmas.Bool.{and_parts}
-use Rattle.std.proofs.lemmas.List.{take_more}
+use Rattle.std.proofs.lemmas.List.{take_all, take_more}
 use Rattle.std.proofs.lemmas.List.Folds.{list_any-append}
 use Rattle.std.proofs.lemmas.Option.{get_or_from_slice_get}
 use Rattle.toml_names.proofs.Proved.{same_step-equal, same_step-self, same_address-decides}
@@ -19,7 +19,7 @@ use Rattle.toml_working.specs.declared.lines.Sought.TheVariants as kinds
 use Rattle.toml_working.specs.declared.working.Position.{Position}
 use Rattle.toml_working.specs.declared.working.TablePlace.{TablePlace}
 use Rattle.toml_working.specs.declared.working.TablePlace.TheVariants as places
-use Rattle.toml_working.specs.Seeing.{Found, found, is_sought, is_sought_line, heads, is_dotted, heads_below, read_by, line_at, FindsLine, FindsTable, FindsHolder, FindsAny, FindsValue, IsTableLine, HoldsNone, LacksSought}
+use Rattle.toml_working.specs.Seeing.{Found, found, is_sought, is_sought_line, heads, is_dotted, heads_below, read_by, line_at, FindsHeader, FindsHeaderIn, FindsLine, FindsTable, FindsHolder, FindsAny, FindsValue, AreHeaded, IsHeaderPlace, IsSoughtAt, IsTableLine, HoldsNone, LacksSought, MeetsHeader}
 use Rattle.toml_working.specs.Standing.{Standing, Read, StandAlone, lies_below, leads_to, covers_at, covers, is_below, holds, slot_standing, slots_standing}
 use Rattle.toml_layout.specs.Beginnings.{begins}
 use Rattle.toml_working.proofs.AtPlace.{slot_of}
@@ -64,7 +64,7 @@ none_behind p s [] k h = refl
 none_behind p s (t ∷ ts) k h = ap (λ b. b || list_any (holds p) ts) (leads_elsewhere p t.base t.address s h.0.1 k) ∙ none_behind p s ts k h.1
 
 -- where a line stands at the address or below it, and does not hold what stands there, none does
-below_pairs : (p : Address) (front : List Standing) (s : Standing) (back : List Standing) → PairsAre (λ x t. (covers x t ≡ false) × (covers t x ≡ false)) (front ++ s ∷ back)
+pub below_pairs : (p : Address) (front : List Standing) (s : Standing) (back : List Standing) → PairsAre (λ x t. (covers x t ≡ false) × (covers t x ≡ false)) (front ++ s ∷ back)
     → is_below p s ≡ true → holds p s ≡ false → list_any (holds p) (front ++ s ∷ back) ≡ false
 below_pairs p [] s back h k none = ap (λ b. b || list_any (holds p) back) none ∙ none_behind p s back k h.0
 below_pairs p (x ∷ front) s back h k none =
@@ -130,7 +130,7 @@ sought_alone what p read slots at is h alone = by (line_at read slots at) refl h
         let facts = is (found s) here in
         ap (list_any (holds p)) all ∙ below_pairs p front s back (pairs_of_all _ _ (subst StandAlone all alone)) facts.0 facts.1
 
-heads_is : (p : Address) (base : Option ℕ) (own : Option Address) → heads p base own ≡ true → (lies_below p own ≡ true) × (leads_to p base own ≡ false)
+pub heads_is : (p : Address) (base : Option ℕ) (own : Option Address) → heads p base own ≡ true → (lies_below p own ≡ true) × (leads_to p base own ≡ false)
 heads_is p (Some n) own h = cc
 heads_is p None None h = cc
 heads_is p None (Some a) h = (subst (λ x. begins p x ≡ true) (sym ((same_address-decides a p).0 h)) (begins_self p), refl)
@@ -164,21 +164,68 @@ slice_get_none (x ∷ xs) zero h = cc
 slice_get_none (x ∷ xs) (suc i) h = omega (arith, slice_get_none xs i h)
 
 -- none of the lines so far, nor of the next slot's
-pub none_so_far : (p : Address) (units : List ReadUnit) (slots : List Slot) (i : ℕ) (r : Option Position) (lines : List tree.Line) → i < length slots → FindsLine kinds.Holder p units slots i r → r ≡ None
-    → list_any (holds p) (slots_standing (read_by units lines) (take i slots)) ≡ false → list_any (holds p) (slots_standing (read_by units lines) (take (i + 1) slots)) ≡ false
-none_so_far p units slots i r lines low finds is so_far = by (slice_get slots i) refl (subst (FindsLine kinds.Holder p units slots i) is finds lines)
+pub none_in_next : (what : Sought) (p : Address) (units : List ReadUnit) (slots : List Slot) (i : ℕ) (lines : List tree.Line) → i < length slots
+    → IfSome (slice_get slots i) (λ (s : Slot). LacksSought what p (slot_standing (read_by units lines) s))
+    → list_any (is_sought_line what p) (slots_standing (read_by units lines) (take i slots)) ≡ false
+    → list_any (is_sought_line what p) (slots_standing (read_by units lines) (take (i + 1) slots)) ≡ false
+none_in_next what p units slots i lines low lacks so_far = by (slice_get slots i) refl lacks
   where
     by : (o : Option Slot) → slice_get slots i ≡ o
-        → IfSome o (λ (s : Slot). LacksSought kinds.Holder p (slot_standing (read_by units lines) s))
-        → list_any (holds p) (slots_standing (read_by units lines) (take (i + 1) slots)) ≡ false
+        → IfSome o (λ (s : Slot). LacksSought what p (slot_standing (read_by units lines) s))
+        → list_any (is_sought_line what p) (slots_standing (read_by units lines) (take (i + 1) slots)) ≡ false
     by None there e = absurd (omega (arith, low, slice_get_none slots i there))
     by (Some s) there e =
         let read = read_by units lines in
-        let here : list_any (holds p) (slot_standing read s) ≡ false = e in
+        let test = is_sought_line what p in
+        let here : list_any test (slot_standing read s) ≡ false = e in
         let front = slots_standing read (take i slots) in
-        ap (list_any (holds p)) (ap (slots_standing read) (take_more slots i s low ∙ ap (λ x. take i slots ++ x ∷ []) (get_or_from_slice_get slots i s s there))
+        ap (list_any test) (ap (slots_standing read) (take_more slots i s low ∙ ap (λ x. take i slots ++ x ∷ []) (get_or_from_slice_get slots i s s there))
         ∙ standing_append read (take i slots) (s ∷ []) ∙ ap (λ r. front ++ r) (append-nil (slot_standing read s)))
-        ∙ list_any-append (holds p) front (slot_standing read s) ∙ ap (λ b. b || list_any (holds p) (slot_standing read s)) so_far ∙ here
+        ∙ list_any-append test front (slot_standing read s) ∙ ap (λ b. b || list_any test (slot_standing read s)) so_far ∙ here
+
+pub none_so_far : (what : Sought) (p : Address) (units : List ReadUnit) (slots : List Slot) (i : ℕ) (r : Option Position) (lines : List tree.Line) → i < length slots
+    → FindsLine what p units slots i r → r ≡ None → list_any (is_sought_line what p) (slots_standing (read_by units lines) (take i slots)) ≡ false
+    → list_any (is_sought_line what p) (slots_standing (read_by units lines) (take (i + 1) slots)) ≡ false
+none_so_far what p units slots i r lines low finds is so_far =
+    none_in_next what p units slots i lines low (subst (FindsLine what p units slots i) is finds lines) so_far
+
+-- ---- headers
+
+any_or : (b : Bool) → (b || true) ≡ true
+any_or true = refl
+any_or false = refl
+
+-- what is sought stands among the lines
+pub sought_there : (what : Sought) (p : Address) (read : Read) (slots : List Slot) (at : Position) → IsSoughtAt what p read slots at
+    → list_any (is_sought_line what p) (slots_standing read slots) ≡ true
+sought_there what p read slots at h = by (line_at read slots at) refl h
+  where
+    by : (o : Option Standing) → line_at read slots at ≡ o → option_map (is_sought_line what p) o ≡ Some true
+        → list_any (is_sought_line what p) (slots_standing read slots) ≡ true
+    by None there e = cc
+    by (Some s) there e =
+        let here : is_sought_line what p s ≡ true = cc in
+        let (front, back, all) = at_split read slots at s there in
+        ap (list_any (is_sought_line what p)) all ∙ list_any-append (is_sought_line what p) front (s ∷ back)
+        ∙ ap (λ b. list_any (is_sought_line what p) front || (b || list_any (is_sought_line what p) back)) here ∙ any_or (list_any (is_sought_line what p) front)
+
+-- a line whose dotted key makes the table is none of headed lines
+pub never_dotted : (p : Address) (units : List ReadUnit) (slots : List Slot) (slot : ℕ) (r : Option Position) (at : Position)
+    → FindsLine kinds.Dotted p units slots slot r → r ≡ Some at → (lines : List tree.Line) → AreHeaded p (slots_standing (read_by units lines) slots) → ⊥
+never_dotted p units slots slot r at finds is lines headed =
+    let found = subst (FindsLine kinds.Dotted p units slots slot) is finds lines in
+    true≢false (sym (sought_there kinds.Dotted p (read_by units lines) slots at found) ∙ headed.no_dotted)
+
+-- the place that is found is that of a header
+pub met_in : (o : Option TablePlace) (X : Type 0) → MatchOption o X IsHeaderPlace → IfSome o IsHeaderPlace
+met_in None X h = tt
+met_in (Some place) X h = h
+
+-- a header stands in some slot
+pub header_somewhere : (p : Address) (read : Read) (slots : List Slot) (n : ℕ) → length slots ≤ n → AreHeaded p (slots_standing read slots)
+    → list_any (is_sought_line kinds.Header p) (slots_standing read (take n slots)) ≡ false → ⊥
+header_somewhere p read slots n past headed none =
+    true≢false (sym headed.header ∙ ap (λ xs. list_any (is_sought_line kinds.Header p) (slots_standing read xs)) (sym (take_all n slots past)) ∙ none)
 
 pub holder_of_line : (p : Address) (units : List ReadUnit) (slots : List Slot) (slot : ℕ) (r : Option Position) → FindsLine kinds.Holder p units slots slot r → FindsHolder p units slots r
 holder_of_line p units slots slot None h lines = tt

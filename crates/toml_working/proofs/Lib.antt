@@ -11,6 +11,7 @@ mod Looked
 mod Commented
 mod Put
 mod PutRoot
+mod Sectioned
 mod Alone
 mod Turned
 mod Changed

@@ -1,5 +1,5 @@
 -- How lines look, and lines that begin as others do.
-use Rattle.std.proofs.Common.{◌≡◌, ◌∙◌, ℕ, Bool, true, false, ◌&&◌, cond, List, [], ◌∷◌, Option, Some, None, refl, ap, sym}
+use Rattle.std.proofs.Common.{◌≡◌, ◌∙◌, inl, inr, ℕ, Bool, true, false, ◌&&◌, cond, List, [], ◌∷◌, Option, Some, None, refl, ap, sym}
 use Rattle.std.specs.Global.{Box}
 use Rattle.std.specs.Prelude.{slice_get}
 use Rattle.toml_scalar.specs.Spelling.{spelled}
@@ -37,7 +37,8 @@ no_place_looks read all at look none s e = absurd (no_place read all at s none e
 -- in layout `Follow`
 pub follow_lays : (layout : Layout) (read : Read) (all : List Slot) (at : Position) (ws : Leaf) (equals : Option Equals) → layout ≡ layouts.Follow
     → BeginsBehind read all at ws equals → LaysOut layout read all at ws equals
-follow_lays layout read all at ws equals is begins s e head = begins s e head ∙ sym (ap (λ l. laid_out l (spacing_of s.base s.outline)) is)
+follow_lays layout read all at ws equals is begins s e (inl head) = begins s e head ∙ sym (ap (λ l. laid_out l (spacing_of s.base s.outline)) is)
+follow_lays layout read all at ws equals is begins s e (inr plain) = let both : layouts.Follow ≡ layouts.Plain = sym is ∙ plain in cc
 
 -- ---- lines that begin as others do
 

@@ -1,9 +1,10 @@
 -- A line that is put in at the root of the working tree.
-use Rattle.std.proofs.Common.{◌≡◌, ◌∙◌, ℕ, ◌+◌, ◌^◌, ◌<◌, Bool, true, false, ◌&&◌, cond, List, [], ◌∷◌, ◌++◌, length, map, Option, Some, None, refl, ap, ap₂, sym, subst, arith, append_assoc}
+use Rattle.std.proofs.Common.{◌≡◌, ◌∙◌, inl, inr, ℕ, ◌+◌, ◌^◌, ◌<◌, ◌≤◌, Bool, true, false, ◌&&◌, cond, List, [], ◌∷◌, ◌++◌, drop, length, map, Option, Some, None, refl, ap, ap₂, sym, subst, arith, append_assoc}
 use Rattle.std.specs.declared.alloc.Global.{Global}
 use Rattle.std.specs.declared.string.String.{String}
 use Rattle.std.specs.Prelude.{is_some, string_bytes}
-use Rattle.std.proofs.lemmas.List.{append_cancel_right}
+use Rattle.std.proofs.lemmas.Bool.{cases_lt}
+use Rattle.std.proofs.lemmas.List.{append_cancel_right, drop-map, drop_all, length-map}
 use Rattle.std.proofs.lemmas.Option.{slice_get_within}
 use Rattle.toml_names.specs.declared.model.address.Step.TheVariants.{Name}
 use Rattle.toml_names.specs.model.Addresses.{Address}
@@ -18,7 +19,7 @@ use Rattle.toml_layout.specs.declared.texts.Texts.{Texts}
 use Rattle.toml_layout.specs.declared.tree.Assign.{Assign}
 use Rattle.toml_layout.specs.declared.tree.Leaf.{Leaf}
 use Rattle.toml_working.specs.declared.working.Position.{Position}
-use Rattle.toml_working.specs.InsertStanding.{RootIsFirst, goes_below, has_comment, has_pair, insert_behind, insert_first, is_bare, line_behind, new_outline, new_standing, pair_or, spacing_behind}
+use Rattle.toml_working.specs.InsertStanding.{RootIsFirst, goes_below, has_comment, has_pair, insert_behind, insert_first, is_bare, line_behind, line_put, new_outline, new_standing, new_standing_in, pair_or, spaced_by, spacing_behind}
 use Rattle.toml_working.specs.Looking.{BodyBegins, LaysOut}
 use Rattle.toml_layout.specs.Looks.{around, begun_as}
 use Rattle.toml_working.specs.Manners.{Manner}
@@ -28,9 +29,9 @@ use Rattle.toml_layout.specs.OpenOutlines.{assign, leaf_text}
 use Rattle.toml_layout.specs.Outlines.{LineOutline, Pair, ValueOutline}
 use Rattle.toml_working.specs.Placing.{IsLastPair, IsNoHeader, IsPair, is_header, lines_before, lines_from}
 use Rattle.toml_layout.specs.NewKeys.{key_of}
-use Rattle.toml_working.specs.Putting.{EndsBefore, InsertsFirst, InsertsLines, IsRootLine, PutsBehind, PutsSlots, ended_before, newline_behind}
+use Rattle.toml_working.specs.Putting.{EndsBefore, InsertsFirst, InsertsLines, IsNameIn, IsPairLine, PutsBehind, PutsSlots, ended_before, newline_behind}
 use Rattle.toml_working.specs.Seeing.{line_at}
-use Rattle.toml_layout.specs.Spacings.{plain_spacing}
+use Rattle.toml_layout.specs.Spacings.{Spacing, plain_spacing}
 use Rattle.toml_working.specs.Standing.{Standing, Read, body_outline, line_standing, slots_standing}
 use Rattle.toml_working.specs.Stands.{BodyKept, Stands}
 use Rattle.toml_working.proofs.AtPlace.{slot_of}
@@ -38,21 +39,21 @@ use Rattle.toml_working.proofs.Commented.{found_below}
 use Rattle.toml_working.proofs.Looked.{begun_new, body_begun}
 use Rattle.toml_working.proofs.Placed.{behind_line, split_at}
 
-line_behind_is : (name : List ℕ) (v : ValueOutline) (manner : Manner) (s : Standing) (newline : List ℕ)
-    → line_behind name v manner s newline
-    ≡ ended_before manner.newline s newline ∷ new_standing (spacing_behind manner s) name v (newline_behind manner.newline newline) ∷ []
-line_behind_is name v manner s [] = refl
-line_behind_is name v manner s (x ∷ xs) = refl
+line_put_is : (q : Address) (spacing : Spacing) (name : List ℕ) (v : ValueOutline) (manner : Manner) (s : Standing) (newline : List ℕ)
+    → line_put q spacing name v manner s newline
+    ≡ ended_before manner.newline s newline ∷ new_standing_in q spacing name v (newline_behind manner.newline newline) ∷ []
+line_put_is q spacing name v manner s [] = refl
+line_put_is q spacing name v manner s (x ∷ xs) = refl
 
 slot_there : (read : Read) (old : List Slot) (at : Position) (s : Standing) → line_at read old at ≡ Some s → at.slot < length old
 slot_there read old at s e = let (slot, there, own) = slot_of read old at s e in slice_get_within old at.slot slot there
 
--- a new line of the root stands so
-stands_new : (read : Read) (name : List ℕ) (o : LineOutline) (l : Line) → l.address ≡ Some (Name name ∷ []) → l.base ≡ Some 0 → HasOutline o l.body
-    → line_standing read l ≡ record { address = Some (Name name ∷ []); base = Some 0; outline = o }
-stands_new read name o l address base (n, is, outlined) =
+-- a new line stands so
+stands_new : (read : Read) (q : Address) (name : List ℕ) (o : LineOutline) (l : Line) → l.address ≡ Some (q ++ Name name ∷ []) → l.base ≡ Some (length q)
+    → HasOutline o l.body → line_standing read l ≡ record { address = Some (q ++ Name name ∷ []); base = Some (length q); outline = o }
+stands_new read q name o l address base (n, is, outlined) =
     ap₂ (λ x y. record { address = x; base = y; outline = body_outline read l.body }) address base
-    ∙ ap (λ x. record { address = Some (Name name ∷ []); base = Some 0; outline = x }) (ap (body_outline read) is ∙ outlined)
+    ∙ ap (λ x. record { address = Some (q ++ Name name ∷ []); base = Some (length q); outline = x }) (ap (body_outline read) is ∙ outlined)
 
 kept_new : (text : List ℕ) (read : Read) (o : LineOutline) (body : Body) → HasOutline o body → BodyKept text read body
 kept_new text read o body (n, is, outlined) = subst (BodyKept text read) (sym is) tt
@@ -60,38 +61,54 @@ kept_new text read o body (n, is, outlined) = subst (BodyKept text read) (sym is
 pub puts_behind : (own : Address) (base : ℕ) (steps : List (String Global)) (v : ValueOutline) (manner : Manner) (texts : Texts) (read : Read)
     (place next : Position) (old mid now : List Slot) (newline : List ℕ) (ws : Leaf) (equals : Option Equals) (l laid : Line)
     → LaysOut manner.layout read old place ws equals → EndsBefore manner.newline texts read place old mid newline
-    → IsRootLine own base steps v newline l → laid.address ≡ l.address → laid.base ≡ l.base → BodyBegins (leaf_text ws) (around equals) l.body laid.body
+    → IsPairLine own base steps v newline l → laid.address ≡ l.address → laid.base ≡ l.base → BodyBegins (leaf_text ws) (around equals) l.body laid.body
     → next.slot ≡ place.slot → (place.index + 1 < 2 ^ 64 → next.index ≡ place.index + 1) → PutsSlots read next laid mid now
     → PutsBehind own base steps v manner texts read place old now
-puts_behind own base steps v manner texts read place next old mid now newline ws equals l laid lays ends is_line address base_same begins slot index puts at_base name root low kept s e head =
+puts_behind own base steps v manner texts read place next old mid now newline ws equals l laid lays ends is_line address base_same begins slot index puts q at_base name root low kept s e =
     let text = text_of texts.source in
     let (kept_mid, ended) = ends kept in
     let (becomes, newline_is) = ended s e in
-    let (own_is, base_is, outlined) = is_line at_base name root in
+    let (own_is, base_is, outlined) = is_line q at_base name root in
+    let spacing = spaced_by (leaf_text ws) (around equals) in
     let begun = body_begun (leaf_text ws) (around equals) l.body laid.body (new_outline plain_spacing name v newline) outlined begins in
-    let stands = stands_new read name (begun_as (leaf_text ws) (around equals) (new_outline plain_spacing name v newline)) laid (address ∙ own_is) (base_same ∙ base_is) begun in
+    let stands = stands_new read q name (begun_as (leaf_text ws) (around equals) (new_outline plain_spacing name v newline)) laid (address ∙ own_is) (base_same ∙ base_is) begun in
     let within : next.slot < length mid = subst (λ k. k < length mid) (sym slot) (subst (λ n. place.slot < n) (sym becomes.count) (slot_there read old place s e)) in
     let (kept_now, are) = puts within text kept_mid (kept_new text read _ laid.body begun) in
     let before : lines_before read mid next.slot next.index ≡ lines_before read old place.slot place.index ++ ended_before manner.newline s s.outline.newline ∷ [] =
     ap₂ (lines_before read mid) slot (index low) ∙ becomes.before in
     let behind : lines_from read mid next.slot next.index ≡ lines_from read old place.slot (place.index + 1) = ap₂ (lines_from read mid) slot (index low) ∙ becomes.behind in
-    let new : line_standing read laid ≡ new_standing (spacing_behind manner s) name v (newline_behind manner.newline s.outline.newline) =
-    stands ∙ ap (λ o. record { address = Some (Name name ∷ []); base = Some 0; outline = o }) (begun_new (leaf_text ws) (around equals) name v newline)
-    ∙ ap (λ x. new_standing x name v newline) (lays s e head) ∙ ap (new_standing (spacing_behind manner s) name v) newline_is in (
+    let new : line_standing read laid ≡ new_standing_in q spacing name v (newline_behind manner.newline s.outline.newline) =
+    stands ∙ ap (λ o. record { address = Some (q ++ Name name ∷ []); base = Some (length q); outline = o }) (begun_new (leaf_text ws) (around equals) name v newline)
+    ∙ ap (new_standing_in q spacing name v) newline_is in (
+      spacing,
+      lays s e,
       kept_now,
       are ∙ ap₂ (λ x y. x ++ line_standing read laid ∷ y) before behind
           ∙ append_assoc (lines_before read old place.slot place.index) (ended_before manner.newline s s.outline.newline ∷ []) (line_standing read laid ∷ lines_from read old place.slot (place.index + 1))
           ∙ ap (λ x. lines_before read old place.slot place.index ++ (ended_before manner.newline s s.outline.newline ∷ x ∷ lines_from read old place.slot (place.index + 1))) new
-          ∙ ap (λ x. lines_before read old place.slot place.index ++ (x ++ lines_from read old place.slot (place.index + 1))) (sym (line_behind_is name v manner s s.outline.newline)),
+          ∙ ap (λ x. lines_before read old place.slot place.index ++ (x ++ lines_from read old place.slot (place.index + 1))) (sym (line_put_is q spacing name v manner s s.outline.newline)),
     )
 
--- the line of a name at the root
-pub root_line : (own : Address) (base : ℕ) (steps parts : List (String Global)) (v : ValueOutline) (newline : List ℕ) (a : Assign) (l : Line)
-    → (base ≡ 0 → parts ≡ steps) → assign a ≡ key_of (map string_bytes parts) → l.address ≡ Some own → l.base ≡ Some base → HasOutline (alone (Pair (assign a) v) newline) l.body
-    → IsRootLine own base steps v newline l
-root_line own base steps parts v newline a l same assigns address base_is (n, is, outlined) at_base name root =
-    let assigned = assigns ∙ ap key_of (ap (map string_bytes) (same at_base) ∙ root.steps_is) in (
-      address ∙ ap Some root.at_is,
+-- the spellings from the last step of a name on
+pub parts_named : (q : Address) (name : List ℕ) (own : Address) (steps parts : List (String Global)) (n : ℕ) → IsNameIn q name own steps
+    → (length q ≤ length steps → n ≡ length q) → parts ≡ drop n steps → map string_bytes parts ≡ drop (length q) (map string_bytes steps)
+parts_named q name own steps parts n named low is = elim (cases_lt (length steps) (length q)) [
+  | inl past ↦ absurd (no_step (drop_all (length q) (map string_bytes steps) (let same = length-map steps string_bytes in omega (arith, past, same))))
+  | inr within ↦
+      ap (map string_bytes) (is ∙ ap (λ k. drop k steps) (low within)) ∙ sym (drop-map string_bytes (length q) steps)
+]
+  where
+    no_step : drop (length q) (map string_bytes steps) ≡ [] → ⊥
+    no_step none = let some = named.steps_is in cc
+
+-- the line of a name in a table
+pub pair_line_is : (own : Address) (base : ℕ) (steps parts : List (String Global)) (v : ValueOutline) (newline : List ℕ) (a : Assign) (l : Line)
+    → ((q : Address) (name : List ℕ) → base ≡ length q → IsNameIn q name own steps → map string_bytes parts ≡ drop (length q) (map string_bytes steps))
+    → assign a ≡ key_of (map string_bytes parts) → l.address ≡ Some own → l.base ≡ Some base → HasOutline (alone (Pair (assign a) v) newline) l.body
+    → IsPairLine own base steps v newline l
+pair_line_is own base steps parts v newline a l same assigns address base_is (n, is, outlined) q at_base name named =
+    let assigned = assigns ∙ ap key_of (same q name at_base named ∙ named.steps_is) in (
+      address ∙ ap Some named.at_is,
       base_is ∙ ap Some at_base,
       (n, is, outlined ∙ ap (λ x. alone (Pair x v) newline) assigned),
     )
@@ -148,7 +165,9 @@ pub behind_root : (own : Address) (steps : List (String Global)) (v : ValueOutli
 behind_root own steps v manner texts read place old now finds puts name root ss stands rooted =
     let last = finds (subst RootIsFirst (sym stands.are) rooted.first) in
     let s = last.line in
-    let (kept_now, are) = puts refl name root last.next stands.kept s last.there (pair_no_header s last.back last.pair) in
+    let (spacing, laid, kept_now, put_at) = puts [] refl name root last.next stands.kept s last.there in
+    let are = subst (λ x. slots_standing read now ≡ lines_before read old place.slot place.index ++ (line_put [] x name v manner s s.outline.newline ++ lines_from read old place.slot (place.index + 1)))
+    (laid (inl (pair_no_header s last.back last.pair))) put_at in
     let split : ss ≡ last.front ++ s ∷ last.back = sym stands.are ∙ last.is in
     let has : has_pair ss ≡ true = ap has_pair split ∙ has_front s last.back last.pair last.front last.heads in
     record {
@@ -176,7 +195,7 @@ first_of_root own steps v manner text read old now none puts name root ss stands
 
 -- before all lines,
 pub before_all : (own : Address) (steps : List (String Global)) (v : ValueOutline) (manner : Manner) (text : List ℕ) (read : Read) (old now : List Slot) (l : Line)
-    → goes_below manner.layout (slots_standing read old) ≡ false → IsRootLine own 0 steps v manner.newline l
+    → goes_below manner.layout (slots_standing read old) ≡ false → IsPairLine own 0 steps v manner.newline l
     → PutsSlots read (record { slot = 0; index = 0 }) l old now → InsertsFirst own steps v manner text read old now
 before_all own steps v manner text read old now l above is_line puts name root ss stands rooted no_pair = by old above puts stands
   where
@@ -184,12 +203,12 @@ before_all own steps v manner text read old now l above is_line puts name root s
         → Stands text read xs ss → Stands text read now (insert_first name v manner ss)
     by [] above puts stands = absurd (rooted.some (sym stands.are))
     by (x ∷ xs) above puts stands =
-        let (own_is, base_is, outlined) = is_line refl name root in
+        let (own_is, base_is, outlined) = is_line [] refl name root in
         let (kept_now, are) = puts (omega arith) text stands.kept (kept_new text read _ l.body outlined) in
         record {
           kept = kept_now;
           are =
-              are ∙ ap₂ (λ n r. n ∷ r) (stands_new read name (new_outline plain_spacing name v manner.newline) l own_is base_is outlined) stands.are
+              are ∙ ap₂ (λ n r. n ∷ r) (stands_new read [] name (new_outline plain_spacing name v manner.newline) l own_is base_is outlined) stands.are
               ∙ sym (ap (λ b. cond b (insert_behind has_comment name v manner ss) (new_standing plain_spacing name v manner.newline ∷ ss))
               (ap (goes_below manner.layout) (sym stands.are) ∙ above));
         }
@@ -214,7 +233,9 @@ pub below_comments : (own : Address) (steps : List (String Global)) (v : ValueOu
 below_comments own steps v manner texts read place old now follows found puts name root ss stands rooted no_pair =
     let last = found.last in
     let s = last.line in
-    let (kept_now, are) = puts refl name root last.next stands.kept s last.there (comment_no_header s last.comment) in
+    let (spacing, laid, kept_now, put_at) = puts [] refl name root last.next stands.kept s last.there in
+    let are = subst (λ x. slots_standing read now ≡ lines_before read old place.slot place.index ++ (line_put [] x name v manner s s.outline.newline ++ lines_from read old place.slot (place.index + 1)))
+    (laid (inl (comment_no_header s last.comment))) put_at in
     let split : ss ≡ last.front ++ s ∷ found.rest = sym stands.are ∙ last.is in
     let below : goes_below manner.layout ss ≡ true =
     ap₂ goes_below follows split ∙ found_below s found.rest last.comment found.ends last.front last.comments in

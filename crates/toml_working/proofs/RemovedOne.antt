@@ -262,7 +262,7 @@ none_goes p read old now none ss stands ordered there =
 -- ---- what is held in a value
 
 -- one of which the test is true, and those around it
-any_split : {A : Type 0} (test : A → Bool) (xs : List A) → list_any test xs ≡ true
+pub any_split : {A : Type 0} (test : A → Bool) (xs : List A) → list_any test xs ≡ true
     → (front : List A) × (x : A) × (back : List A) × (xs ≡ front ++ x ∷ back) × (test x ≡ true)
 any_split test [] there = absurd (true≢false (sym there))
 any_split {A = A} test (x ∷ xs) there = by (any_split test xs) (test x) refl there

@@ -1,5 +1,5 @@
--- `insert` of a name at the root, on lines by what finds them.
-use Rattle.std.specs.Prelude.{◌≡◌, ℕ, Bool, true, false, ◌&&◌, not, is_some, List, [], ◌∷◌, ◌++◌, Option, Some, None, if◌then◌else◌}
+-- `insert` of a name at the root, on lines by what finds them, and a line that is put in behind another, in any table.
+use Rattle.std.specs.Prelude.{◌≡◌, length, ℕ, Bool, true, false, ◌&&◌, not, is_some, List, [], ◌∷◌, ◌++◌, Option, Some, None, if◌then◌else◌}
 use Rattle.std.specs.List.{list_any}
 use Rattle.toml_scalar.specs.Spelling.{spelled}
 use Rattle.toml_names.specs.declared.model.address.Step.TheVariants.{Name}
@@ -20,8 +20,12 @@ new_assign s name = record { first = spelled name; rest = []; before_equals = s.
 abbrev pub new_outline : Spacing → List ℕ → ValueOutline → List ℕ → LineOutline
 new_outline s name v newline = record { ws = s.ws; expr = Pair (new_assign s name) v; tail = []; comment = None; newline = newline }
 
+-- the line with them, in the section of the table at the address, and at the root
+abbrev pub new_standing_in : Address → Spacing → List ℕ → ValueOutline → List ℕ → Standing
+new_standing_in q s name v newline = record { address = Some (q ++ Name name ∷ []); base = Some (length q); outline = new_outline s name v newline }
+
 abbrev pub new_standing : Spacing → List ℕ → ValueOutline → List ℕ → Standing
-new_standing s name v newline = record { address = Some (Name name ∷ []); base = Some 0; outline = new_outline s name v newline }
+new_standing = new_standing_in []
 
 -- the line in another newline
 abbrev pub end_in : List ℕ → Standing → Standing
@@ -80,11 +84,15 @@ abbrev pub goes_below : Layout → List Standing → Bool
 goes_below layouts.Plain ss = false
 goes_below layouts.Follow ss = has_comment ss && comments_end ss
 
--- A line, by its newline, and the new one behind it. What has no newline is a former last line: it gets that of new lines, and the new
--- one has none.
+-- A line, by its newline, and the new one behind it, in the section of the table at the address and with this whitespace. What has no
+-- newline is a former last line: it gets that of new lines, and the new one has none.
+abbrev pub line_put : Address → Spacing → List ℕ → ValueOutline → Manner → Standing → List ℕ → List Standing
+line_put q spacing name v manner s [] = end_in manner.newline s ∷ new_standing_in q spacing name v [] ∷ []
+line_put q spacing name v manner s (b ∷ bs) = s ∷ new_standing_in q spacing name v manner.newline ∷ []
+
+-- at the root, with that of the line
 abbrev pub line_behind : List ℕ → ValueOutline → Manner → Standing → List ℕ → List Standing
-line_behind name v manner s [] = end_in manner.newline s ∷ new_standing (spacing_behind manner s) name v [] ∷ []
-line_behind name v manner s (b ∷ bs) = s ∷ new_standing (spacing_behind manner s) name v manner.newline ∷ []
+line_behind name v manner s = line_put [] (spacing_behind manner s) name v manner s
 
 -- behind the last one of some lines; `more` tells of the lines behind one whether another of them follows
 abbrev pub insert_behind : (List Standing → Bool) → List ℕ → ValueOutline → Manner → List Standing → List Standing

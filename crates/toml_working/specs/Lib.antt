@@ -20,6 +20,7 @@ pub mod Becoming
 pub mod Seeing
 pub mod Placing
 pub mod Putting
+pub mod Sections
 pub mod Changing
 pub mod HeldLines
 pub mod RemoveStanding

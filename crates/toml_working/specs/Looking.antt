@@ -1,8 +1,9 @@
 -- How lines of the working tree look: what a new line takes of them.
-use Rattle.std.specs.Prelude.{◌≡◌, ℕ, List, Option, Some, slice_get}
+use Rattle.std.specs.Prelude.{◌≡◌, ◌⊎◌, ℕ, List, Option, Some, slice_get}
 use Rattle.toml_tree.specs.Tree as tree
 use Rattle.toml_units.specs.declared.unit.Unit.{Unit as ReadUnit}
 use Rattle.toml_layout.specs.declared.layout.Layout.{Layout}
+use Rattle.toml_layout.specs.declared.layout.Layout.TheVariants as layouts
 use Rattle.toml_layout.specs.Looks.{LooksAs, around, begun_as}
 use Rattle.toml_working.specs.declared.lines.Body.{Body}
 use Rattle.toml_working.specs.declared.lines.Body.TheVariants as bodies
@@ -34,6 +35,10 @@ SlotLooks lines slot index look = (units : List ReadUnit) (s : Standing) → sli
 abbrev pub LooksAt : Read → List Slot → Position → Look → Type 0
 LooksAt read slots at look = (s : Standing) → line_at read slots at ≡ Some s → LooksAs look s.outline
 
+-- it is told with which whitespace a line behind this one begins, and what stands around its `=`: behind a header in `Plain` alone
+abbrev pub IsSpacingTold : Layout → Standing → Type 0
+IsSpacingTold layout s = IsNoHeader s ⊎ (layout ≡ layouts.Plain)
+
 -- a line behind the one at the place, if that is no header, begins with this whitespace, and has this around its `=`
 abbrev pub BeginsBehind : Read → List Slot → Position → Leaf → Option Equals → Type 0
 BeginsBehind read slots at ws equals = (s : Standing) → line_at read slots at ≡ Some s → IsNoHeader s
@@ -41,7 +46,7 @@ BeginsBehind read slots at ws equals = (s : Standing) → line_at read slots at 
 
 -- so it does in a layout
 abbrev pub LaysOut : Layout → Read → List Slot → Position → Leaf → Option Equals → Type 0
-LaysOut layout read slots at ws equals = (s : Standing) → line_at read slots at ≡ Some s → IsNoHeader s
+LaysOut layout read slots at ws equals = (s : Standing) → line_at read slots at ≡ Some s → IsSpacingTold layout s
     → spaced_by (leaf_text ws) (around equals) ≡ laid_out layout (spacing_of s.base s.outline)
 
 -- what stands on a line begins so, if it is opened

@@ -14,14 +14,15 @@ use Rattle.toml_layout.specs.declared.texts.Texts.{Texts}
 use Rattle.toml_working.specs.declared.working.Position.{Position}
 use Rattle.toml_working.specs.declared.working.Tree.{Tree}
 use Rattle.toml_working.specs.Becoming.{LineBecomes}
-use Rattle.toml_working.specs.InsertStanding.{AreRooted, end_in, has_pair, insert_first, insert_standing, line_behind, new_outline}
+use Rattle.toml_working.specs.InsertStanding.{AreRooted, end_in, has_pair, insert_first, insert_standing, line_put, new_outline, spacing_behind}
 use Rattle.toml_working.specs.Manners.{Manner}
 use Rattle.toml_working.specs.OpeningLines.{HasOutline}
 use Rattle.toml_layout.specs.OpenOutlines.{leaf_text}
 use Rattle.toml_layout.specs.Outlines.{ValueOutline}
-use Rattle.toml_working.specs.Placing.{IsNoHeader, lines_before, lines_from}
+use Rattle.toml_working.specs.Placing.{lines_before, lines_from}
 use Rattle.toml_working.specs.Seeing.{line_at}
-use Rattle.toml_layout.specs.Spacings.{plain_spacing}
+use Rattle.toml_working.specs.Looking.{IsSpacingTold}
+use Rattle.toml_layout.specs.Spacings.{Spacing, plain_spacing}
 use Rattle.toml_working.specs.Standing.{Standing, Read, line_standing, slot_standing, slots_standing}
 use Rattle.toml_working.specs.Stands.{BodyKept, SlotKept, Stands}
 use Rattle.toml_working.specs.Turning.{OneTurns, SlotTurns}
@@ -94,29 +95,34 @@ PutsSlots read at line old now = at.slot < length old → (text : List ℕ) → 
 abbrev pub IsElsewhere : Address → Type 0
 IsElsewhere at = (name : List ℕ) → ¬ (at ≡ Name name ∷ [])
 
--- the address is that of this name at the root, and this is the spelling of its step
-pub record IsRootName (name : List ℕ) (at : Address) (steps : List (String Global)) : Type 0 where
-  pub at_is : at ≡ Name name ∷ []
-  pub steps_is : map string_bytes steps ≡ spelled name ∷ []
+-- the address is that of this name in the table at the other, and this is the spelling of its last step
+pub record IsNameIn (q : Address) (name : List ℕ) (at : Address) (steps : List (String Global)) : Type 0 where
+  pub at_is : at ≡ q ++ Name name ∷ []
+  pub steps_is : drop (length q) (map string_bytes steps) ≡ spelled name ∷ []
+
+-- at the root
+abbrev pub IsRootName : List ℕ → Address → List (String Global) → Type 0
+IsRootName = IsNameIn []
 
 -- what is written by on a tree
 abbrev pub manner : Tree → Manner
 manner tree = record { newline = leaf_text tree.style; layout = tree.texts.layout }
 
--- the line of a name at the root, in the plain layout
-abbrev pub IsRootLine : Address → ℕ → List (String Global) → ValueOutline → List ℕ → Line → Type 0
-IsRootLine at base steps v newline l = base ≡ 0 → (name : List ℕ) → IsRootName name at steps
-    → (l.address ≡ Some (Name name ∷ [])) × (l.base ≡ Some 0) × HasOutline (new_outline plain_spacing name v newline) l.body
+-- the line of a name in a table, in the plain layout
+abbrev pub IsPairLine : Address → ℕ → List (String Global) → ValueOutline → List ℕ → Line → Type 0
+IsPairLine at base steps v newline l = (q : Address) → base ≡ length q → (name : List ℕ) → IsNameIn q name at steps
+    → (l.address ≡ Some (q ++ Name name ∷ [])) × (l.base ≡ Some (length q)) × HasOutline (new_outline plain_spacing name v newline) l.body
 
--- it is put in behind the line at the place, if that is no header
+-- it is put in behind the line at the place
 abbrev pub PutsBehind : Address → ℕ → List (String Global) → ValueOutline → Manner → Texts → Read → Position → List Slot → List Slot
     → Type 0
-PutsBehind at base steps v manner texts read place old now = base ≡ 0 → (name : List ℕ) → IsRootName name at steps
+PutsBehind at base steps v manner texts read place old now = (q : Address) → base ≡ length q → (name : List ℕ) → IsNameIn q name at steps
     → place.index + 1 < 2 ^ 64 → EachIs (SlotKept (text_of texts.source) read) old
-    → (s : Standing) → line_at read old place ≡ Some s → IsNoHeader s
-    → EachIs (SlotKept (text_of texts.source) read) now
+    → (s : Standing) → line_at read old place ≡ Some s
+    → (spacing : Spacing) × (IsSpacingTold manner.layout s → spacing ≡ spacing_behind manner s)
+    × EachIs (SlotKept (text_of texts.source) read) now
     × (slots_standing read now ≡ lines_before read old place.slot place.index
-    ++ (line_behind name v manner s s.outline.newline ++ lines_from read old place.slot (place.index + 1)))
+    ++ (line_put q spacing name v manner s s.outline.newline ++ lines_from read old place.slot (place.index + 1)))
 
 -- so it is of the lines of a tree
 abbrev pub TreePutsBehind : Address → ℕ → List (String Global) → ValueOutline → Read → Position → Tree → Tree → Type 0

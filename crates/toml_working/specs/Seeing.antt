@@ -1,5 +1,5 @@
 -- What is seen of the lines of the working tree, and what is sought among them.
-use Rattle.std.specs.Prelude.{◌≡◌, ℕ, Bool, true, false, ◌&&◌, List, length, Option, Some, None, option_and_then, option_map, slice_get, IfSome, MatchOption, []}
+use Rattle.std.specs.Prelude.{◌≡◌, ◌+◌, ◌<◌, ◌^◌, ℕ, Bool, true, false, ◌&&◌, List, length, Option, Some, None, option_and_then, option_map, slice_get, IfSome, MatchOption, []}
 use Rattle.std.specs.Bool.{nat_lt}
 use Rattle.std.specs.List.{list_any}
 use Rattle.toml_names.specs.model.Addresses.{Address, is_above, lent, same_address}
@@ -119,6 +119,31 @@ IsTableLine p read slots (places.Implicit at) = IsSoughtAt kinds.HeaderBelow p r
 
 abbrev pub FindsTable : Address → List ReadUnit → List Slot → Option TablePlace → Type 0
 FindsTable p units slots result = (lines : List tree.Line) → IfSome result (IsTableLine p (read_by units lines) slots)
+
+-- lines have a header of the table at the address, and no dotted key makes that table
+pub record AreHeaded (p : Address) (ss : List Standing) : Type 0 where
+  pub header : list_any (is_sought_line kinds.Header p) ss ≡ true
+  pub no_dotted : list_any (is_sought_line kinds.Dotted p) ss ≡ false
+
+-- it is the place of a header line, with an index that can be counted on from
+abbrev pub IsHeaderPlace : TablePlace → Type 0
+IsHeaderPlace (places.Header at) = at.index + 1 < 2 ^ 64
+IsHeaderPlace (places.Dotted at) = ⊥
+IsHeaderPlace (places.Implicit at) = ⊥
+
+-- the place of a header line of the slot is found, or the slot has none
+abbrev pub FindsHeaderIn : Address → List ReadUnit → List Slot → ℕ → Option TablePlace → Type 0
+FindsHeaderIn p units slots slot result = (lines : List tree.Line) → let read = read_by units lines in
+    MatchOption result (IfSome (slice_get slots slot) (λ s. LacksSought kinds.Header p (slot_standing read s))) IsHeaderPlace
+
+-- where lines have a header of the table, and no dotted key makes it, no other place is found than a header's
+abbrev pub MeetsHeader : Address → List ReadUnit → List Slot → Option TablePlace → Type 0
+MeetsHeader p units slots result = (lines : List tree.Line) → AreHeaded p (slots_standing (read_by units lines) slots) → IfSome result IsHeaderPlace
+
+-- and then the place of a header is found
+abbrev pub FindsHeader : Address → List ReadUnit → List Slot → Option TablePlace → Type 0
+FindsHeader p units slots result = (lines : List tree.Line) → AreHeaded p (slots_standing (read_by units lines) slots)
+    → (place : TablePlace) × (result ≡ Some place) × IsHeaderPlace place
 
 -- the place of a line whose value is what stands at the address, or holds it
 abbrev pub FindsHolder : Address → List ReadUnit → List Slot → Option Position → Type 0

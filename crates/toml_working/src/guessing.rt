@@ -1,5 +1,9 @@
 //! Where the section of a table ends, by a guess: else many insertions into one long section would each go through all of it.
-ghost use Rattle.std.specs.Prelude.{OnOk};
+ghost use Rattle.std.specs.Prelude.{◌≡◌, IfSome, OnOk, true};
+ghost use Rattle.toml_layout.specs.OpenOutlines.{value};
+ghost use Rattle.toml_working.specs.Putting.{TreePutsBehind};
+ghost use Rattle.toml_working.specs.Sections.{FindsSectionEnd, IsEndFrom, IsOfSectionAt};
+ghost use Rattle.toml_working.specs.Starting.{read_of};
 ghost use Rattle.toml_working.specs.Stands.{KeepsRest};
 
 use crate::inserting::Insertion;
@@ -16,15 +20,35 @@ impl<'x> Tree<'x> {
         before: Before<'_, 'x>,
         from: Position,
         table: &[Step],
-    ) -> Option<Position> {
-        if self.is_of_section(before, self.section_end, table) {
-            return self.last_pair(before, self.section_end);
+    ) -> Option<Position>
+        ensures { FindsSectionEnd table.now before.entry.units.now self.now.slots.items from result }
+    {
+        match self.guessed_end(before, table) {
+            Some(found) => Some(found),
+            None => self.last_pair(before, from),
         }
-        self.last_pair(before, from)
+    }
+
+    /// The last line with a key and a value from the guess on, where the guess and that line stand in the section of the table: where the
+    /// guess does, that line does too, and the second look is for the proof.
+    fn guessed_end(&self, before: Before<'_, 'x>, table: &[Step]) -> Option<Position>
+        ensures last { let start = self.now.section_end in
+            IfSome result (IsEndFrom before.entry.units.now self.now.slots.items start) }
+        ensures there { IfSome result (IsOfSectionAt table.now before.entry.units.now self.now.slots.items) }
+    {
+        if !self.is_of_section(before, self.section_end, table) {
+            return None;
+        }
+        match self.last_pair(before, self.section_end) {
+            Some(found) if self.is_of_section(before, found, table) => Some(found),
+            _ => None,
+        }
     }
 
     /// Whether the line at a place has a key and a value, and stands in the section of the table.
-    fn is_of_section(&self, before: Before<'_, 'x>, at: Position, table: &[Step]) -> bool {
+    fn is_of_section(&self, before: Before<'_, 'x>, at: Position, table: &[Step]) -> bool
+        ensures { result ≡ true → IsOfSectionAt table.now before.entry.units.now self.now.slots.items at }
+    {
         let Some(line) = self.seen(before, at) else {
             return false;
         };
@@ -61,7 +85,9 @@ impl<'x> Tree<'x> {
         base: usize,
         insertion: Insertion<'_, 'x>,
     ) -> Result<bool, AllocError>
-        ensures { OnOk result (KeepsRest self.old self.new) }
+        ensures rest { OnOk result (KeepsRest self.old self.new) }
+        ensures put { let it = insertion.entry in
+            OnOk result (TreePutsBehind it.at.now base it.spelled.now (value it.new) (read_of before.entry) behind self.old self.new) }
     {
         self.section_end = behind;
         self.insert_behind(before, behind, base, insertion)

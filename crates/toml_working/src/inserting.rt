@@ -2,9 +2,10 @@
 ghost use Rattle.std.specs.Prelude.{◌≡◌, ◌++◌, ◌∷◌, IfOk, OnOk, drop, false, length, take, true};
 ghost use Rattle.toml_layout.specs.KnownLines.{lines_known};
 ghost use Rattle.toml_layout.specs.OpenOutlines.{leaf_text, value};
-ghost use Rattle.toml_working.specs.Putting.{EndsOne, EndsSlot, EndsSlots, IsElsewhere, IsRootLine};
+ghost use Rattle.toml_working.specs.Putting.{EndsOne, EndsSlot, EndsSlots, IsElsewhere, IsPairLine};
 ghost use Rattle.toml_working.specs.Putting.{PutsSlot, PutsSlots, TreeEndsBefore, TreeInserts, TreeInsertsFirst, TreePutsBehind};
 ghost use Rattle.toml_working.specs.HeldLines.{PutsInValue};
+ghost use Rattle.toml_working.specs.Sections.{TreeInsertsBelow, TreePutsBelow};
 ghost use Rattle.toml_working.specs.Starting.{read_of};
 ghost use Rattle.toml_working.specs.Stands.{KeepsRest};
 
@@ -40,6 +41,7 @@ impl<'x> Tree<'x> {
         ensures root { OnOk result (TreeInserts at.now spelled.now (value new.entry) (read_of before.entry) self.old self.new) }
         ensures value { let read = read_of before.entry in
             IfOk result (PutsInValue parent.now at.now spelled.now new.entry read self.old self.new) }
+        ensures below { OnOk result (TreePutsBelow parent.now at.now spelled.now (value new.entry) (read_of before.entry) self.old self.new) }
     {
         let insertion = Insertion { at, spelled, new };
         if is_at_root(at) {
@@ -60,6 +62,8 @@ impl<'x> Tree<'x> {
         ensures rest { OnOk result (KeepsRest self.old self.new) }
         ensures value { let it = insertion.entry in
             IfOk result (PutsInValue parent.now it.at.now it.spelled.now it.new (read_of before.entry) self.old self.new) }
+        ensures below { let it = insertion.entry in
+            OnOk result (TreePutsBelow parent.now it.at.now it.spelled.now (value it.new) (read_of before.entry) self.old self.new) }
     {
         match self.value_line(before, named, parent) {
             Some(place) => {
@@ -78,7 +82,9 @@ impl<'x> Tree<'x> {
         parent: &Address,
         insertion: Insertion<'_, 'x>,
     ) -> Result<bool, AllocError>
-        ensures { OnOk result (KeepsRest self.old self.new) }
+        ensures rest { OnOk result (KeepsRest self.old self.new) }
+        ensures below { let it = insertion.entry in
+            OnOk result (TreeInsertsBelow parent.now it.at.now it.spelled.now (value it.new) (read_of before.entry) self.old self.new) }
     {
         let Some((last, above)) = insertion.at.steps().split_last() else {
             return Ok(false);
@@ -246,7 +252,7 @@ impl<'x> Tree<'x> {
         newline: Leaf<'x>,
     ) -> Result<Line<'x>, AllocError>
         ensures { let it = insertion.entry in
-            IfOk result (IsRootLine it.at.now base it.spelled.now (value it.new) (leaf_text newline.entry)) }
+            IfOk result (IsPairLine it.at.now base it.spelled.now (value it.new) (leaf_text newline.entry)) }
     {
         let Insertion { at, spelled, new } = insertion;
         let (_, parts) = spelled.split_at(base.min(spelled.len()));

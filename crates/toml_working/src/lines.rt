@@ -1,5 +1,5 @@
 //! The lines of the working tree: kept as they stand in the document until an edit changes something on them.
-ghost use Rattle.std.specs.Prelude.{◌≡◌, IfOk, List, OnOk, None, [], length};
+ghost use Rattle.std.specs.Prelude.{◌≡◌, IfOk, List, OnOk, None, [], length, ◌+◌, ◌<◌, ◌^◌, IfSome};
 ghost use Rattle.std.specs.List.{list_any};
 ghost use Rattle.toml_layout.specs.KnownLines.{lines_known};
 ghost use Rattle.toml_tree.specs.Tree.{Line as ReadLine};
@@ -277,7 +277,8 @@ impl<'t> Slot<'t> {
 
     /// The index of its first line that is what is sought.
     pub(crate) fn find<'a>(&'a self, units: &'a [Unit], what: Sought, at: &Address) -> Option<usize>
-        ensures { FindsIn what at.now units.now self.now result }
+        ensures finds { FindsIn what at.now units.now self.now result }
+        ensures low { IfSome result (λ index. index + 1 < 2 ^ 64) }
     {
         for index in 0..self.count() {
             let line = self.seen(units, index)?;

@@ -1,11 +1,11 @@
 //! Where things stand in the working tree.
-ghost use Rattle.std.specs.Prelude.{◌≡◌, ◌+◌, ◌<◌, ◌^◌, List, IfOk, true};
+ghost use Rattle.std.specs.Prelude.{◌≡◌, ◌+◌, ◌<◌, ◌^◌, List, IfOk, IfSome, true};
 ghost use Rattle.toml_text.specs.Source.{text_of};
 ghost use Rattle.toml_working.specs.Starting.{AreFacts, IsAsRead, IsReadOf};
 ghost use Rattle.toml_working.specs.Putting.{IsLastAt};
 ghost use Rattle.toml_working.specs.Placing.{FindsLast, FindsRootEnd, IsOfRoot, PassesSlot};
 ghost use Rattle.toml_working.specs.RemovingIn.{CountsBase};
-ghost use Rattle.toml_working.specs.Seeing.{CountsSteps, FindsAny, FindsHolder, FindsLine, FindsTable, FindsValue, HoldsNone, SeesAt};
+ghost use Rattle.toml_working.specs.Seeing.{CountsSteps, FindsAny, FindsHeader, FindsHeaderIn, FindsHolder, FindsLine, FindsTable, FindsValue, HoldsNone, MeetsHeader, SeesAt};
 
 use crate::elements::Elements;
 use crate::lines::{Line, Seen, Slot, Sought};
@@ -226,7 +226,8 @@ impl<'x> Tree<'x> {
         what: Sought,
         at: &Address,
     ) -> Option<Position>
-        ensures { FindsLine what at.now before.entry.units.now self.now.slots.items slot result }
+        ensures finds { FindsLine what at.now before.entry.units.now self.now.slots.items slot result }
+        ensures low { IfSome result (λ at. at.index + 1 < 2 ^ 64) }
     {
         let index = self.slots.get(slot)?.find(before.units, what, at)?;
         Some(Position { slot, index })
@@ -239,7 +240,8 @@ impl<'x> Tree<'x> {
         named: Option<Place>,
         at: &Address,
     ) -> Option<TablePlace>
-        ensures { FindsTable at.now before.entry.units.now self.now.slots.items result }
+        ensures finds { FindsTable at.now before.entry.units.now self.now.slots.items result }
+        ensures header { FindsHeader at.now before.entry.units.now self.now.slots.items result }
     {
         match self.near_table(before, named, at) {
             Some(place) => Some(place),
@@ -254,7 +256,8 @@ impl<'x> Tree<'x> {
         named: Option<Place>,
         at: &Address,
     ) -> Option<TablePlace>
-        ensures { FindsTable at.now before.entry.units.now self.now.slots.items result }
+        ensures finds { FindsTable at.now before.entry.units.now self.now.slots.items result }
+        ensures meets { MeetsHeader at.now before.entry.units.now self.now.slots.items result }
     {
         match named {
             Some(Place::Header(line)) => self.header_in(before, line, at),
@@ -266,7 +269,8 @@ impl<'x> Tree<'x> {
     /// Where the table at the address stands, by all lines: a header comes before a dotted key, and that before a longer
     /// header.
     fn sought_table(&self, before: Before<'_, 'x>, at: &Address) -> Option<TablePlace>
-        ensures { FindsTable at.now before.entry.units.now self.now.slots.items result }
+        ensures finds { FindsTable at.now before.entry.units.now self.now.slots.items result }
+        ensures header { FindsHeader at.now before.entry.units.now self.now.slots.items result }
     {
         let mut dotted = None;
         let mut implicit = None;
@@ -286,15 +290,19 @@ impl<'x> Tree<'x> {
 
     /// The header line of a slot that makes the table.
     fn header_in(&self, before: Before<'_, 'x>, slot: usize, at: &Address) -> Option<TablePlace>
-        ensures { FindsTable at.now before.entry.units.now self.now.slots.items result }
+        ensures finds { FindsTable at.now before.entry.units.now self.now.slots.items result }
+        ensures header { FindsHeaderIn at.now before.entry.units.now self.now.slots.items slot result }
     {
-        let place = self.line_in(before, slot, Sought::Header, at)?;
-        Some(TablePlace::Header(place))
+        match self.line_in(before, slot, Sought::Header, at) {
+            Some(place) => Some(TablePlace::Header(place)),
+            None => None,
+        }
     }
 
     /// The line of a slot whose dotted key makes the table.
     fn dotted_in(&self, before: Before<'_, 'x>, slot: usize, at: &Address) -> Option<TablePlace>
-        ensures { FindsTable at.now before.entry.units.now self.now.slots.items result }
+        ensures finds { FindsTable at.now before.entry.units.now self.now.slots.items result }
+        ensures meets { MeetsHeader at.now before.entry.units.now self.now.slots.items result }
     {
         let place = self.line_in(before, slot, Sought::Dotted, at)?;
         Some(TablePlace::Dotted(place))

@@ -1,12 +1,12 @@
 use Rattle.std.proofs.Common.{◌∙◌, subst, subst₂}
 use Rattle.std.proofs.lemmas.Result.{IfOk-weaker}
 use Rattle.toml_edits.specs.Edits.{change}
-use Rattle.toml_editor.specs.Exact.{WritesInsert, WritesInside, WritesSet}
+use Rattle.toml_editor.specs.Exact.{WritesBelow, WritesInsert, WritesInside, WritesSet}
 use Rattle.toml_working.specs.HeldLines.{TakesFromValue}
 use Rattle.toml_working.specs.RemovingIn.{RemovesLines}
 use Rattle.toml_editor.specs.SpelledEdits.{IsSpelled}
 use Rattle.toml_working.specs.Starting.{read_of}
-use Rattle.toml_editor.proofs.Answered.{if_ok_with}
+use Rattle.toml_editor.proofs.Answered.{if_ok_and, if_ok_with}
 use Rattle.toml_editor.proofs.EditWritten.{edit_written}
 use Rattle.toml_editor.proofs.making.write_edit.Goals as goal
 
@@ -54,6 +54,9 @@ returns-in-Insert c =
       subst₂ (λ a t. WritesInsert profile read a t steps old new) (at whole) c.as_str-in-Insert.ensures.value
           (subst (λ ss. WritesInsert profile read c.in_ok-at.at c.as_str-in-Insert.result.now ss old new) c.deref.ensures.value made.1.0),
       subst₂ (λ a t. WritesInside profile read a t steps old new done) (at whole) c.as_str-in-Insert.ensures.value
-          (subst (λ ss. WritesInside profile read c.in_ok-at.at c.as_str-in-Insert.result.now ss old new done) c.deref.ensures.value made.1.1),
+          (subst (λ ss. WritesInside profile read c.in_ok-at.at c.as_str-in-Insert.result.now ss old new done) c.deref.ensures.value made.1.1.0),
+      subst₂ (λ a t. WritesBelow profile read a t steps old new) (at whole) c.as_str-in-Insert.ensures.value
+          (subst (λ ss. WritesBelow profile read c.in_ok-at.at c.as_str-in-Insert.result.now ss old new) c.deref.ensures.value made.1.1.1),
     ))
-    (if_ok_with _ _ result c.write_insert.ensures.rest (if_ok_with _ _ result c.write_insert.ensures.insert c.write_insert.ensures.inside)))
+    (if_ok_with _ _ result c.write_insert.ensures.rest (if_ok_with _ _ result c.write_insert.ensures.insert
+    (if_ok_and _ _ result c.write_insert.ensures.inside c.write_insert.ensures.below))))

@@ -1,4 +1,4 @@
-use Rattle.std.proofs.Common.{◌≡◌, [], ◌∷◌, ◌++◌, inl, inr, refl, sym, ap, ap₂, ◌∙◌, subst}
+use Rattle.std.proofs.Common.{◌≡◌, [], ◌∷◌, ◌++◌, inl, inr, refl, sym, ap, ap₂, ◌∙◌, subst, subst₂}
 use Rattle.std.proofs.lemmas.Result.{IfOk-weaker, on_ok_weaker}
 use Rattle.toml_names.specs.declared.model.address.Step.{Step}
 use Rattle.toml_names.specs.model.Addresses.{Address}
@@ -8,6 +8,7 @@ use Rattle.toml_layout.specs.Opening.{OpensText}
 use Rattle.toml_working.specs.HeldLines.{PutsInValue}
 use Rattle.toml_working.specs.InValues.{IsParent}
 use Rattle.toml_working.specs.Putting.{InsertsLines, manner}
+use Rattle.toml_working.specs.Sections.{TreePutsBelow}
 use Rattle.toml_working.specs.Starting.{read_of}
 use Rattle.toml_layout.specs.TreeOutlines.{value_outline}
 use Rattle.toml_editor.proofs.making.write_insert.Goals as goal
@@ -62,3 +63,20 @@ returns-in_ok-named-in-Some-clause-inside c =
 
 pub returns-in-None-clause-inside : goal.returns-in-None-clause-inside
 returns-in-None-clause-inside c within v is = absurd (subst (OpensText c.args.read.profile c.args.value.now) c.in-None.is c.in_ok-new.ensures within v is)
+
+pub returns-in_ok-named-in-Some-clause-below : goal.returns-in_ok-named-in-Some-clause-below
+returns-in_ok-named-in-Some-clause-below c =
+    let old = c.args.tree.now in
+    let p = c.args.at.now in
+    let read = read_of c.args.read.before in
+    let steps = c.args.steps.now in
+    let (w, of_text, outlined) = subst (OpensText c.args.read.profile c.args.value.now) c.in-Some.is c.in_ok-new.ensures in
+    on_ok_weaker c.insert.result
+    (λ puts within v is q last split.
+    subst₂ (λ r o. TreePutsBelow r p steps o read old c.insert.new.self)
+    (parent_is p q c.in_ok-parent-in-Some.parent last c.in_ok-parent-in-Some.ensures split)
+    (outlined ∙ ap value_outline (one_value w v 0 c.args.value.now of_text.0 is.0)) puts)
+    c.insert.ensures.below
+
+pub returns-in-None-clause-below : goal.returns-in-None-clause-below
+returns-in-None-clause-below c within v is = absurd (subst (OpensText c.args.read.profile c.args.value.now) c.in-None.is c.in_ok-new.ensures within v is)

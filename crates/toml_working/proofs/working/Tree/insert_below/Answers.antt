@@ -1,12 +1,13 @@
 use Rattle.std.proofs.Common.{◌≡◌, true, subst, sym}
-use Rattle.std.proofs.lemmas.Result.{IfOk-weaker}
+use Rattle.std.proofs.lemmas.Result.{IfOk-weaker, on_ok_weaker}
 use Rattle.toml_text.specs.Source.{text_of}
 use Rattle.toml_layout.specs.Holding.{PutsHeld}
 use Rattle.toml_layout.specs.declared.changing.Inside.TheVariants as changes
 use Rattle.toml_working.specs.Seeing.{FindsHolder}
 use Rattle.toml_working.specs.Standing.{holds}
 use Rattle.toml_working.specs.Starting.{read_of}
-use Rattle.toml_working.proofs.Answered.{if_ok_always}
+use Rattle.toml_working.proofs.Answered.{if_ok_always, on_ok_always}
+use Rattle.toml_working.proofs.Sectioned.{never_held}
 use Rattle.toml_working.proofs.AtPlace.{holder_at}
 use Rattle.toml_working.proofs.HeldLines.{child_held, line_held, not_held}
 use Rattle.toml_working.proofs.working.Tree.insert_below.Goals as goal
@@ -31,3 +32,16 @@ returns-in-None-clause-value c =
     let tree = c.args.self.now in
     if_ok_always _ c.insert_line.result (λ done last split not_root ss stands ordered there.
     absurd (not_held c.args.parent.now (text_of tree.texts.source) read tree.slots.items ss (c.value_line.ensures.1 c.in-None.is) not_root stands ordered there))
+
+pub returns-in-Some-clause-below : goal.returns-in-Some-clause-below
+returns-in-Some-clause-below c =
+    let read = read_of c.args.before in
+    let tree = c.args.self.now in
+    let parent = c.args.parent.now in
+    let found = subst (FindsHolder parent c.args.before.units.now tree.slots.items) c.in-Some.is c.value_line.ensures.0 read.lines in
+    on_ok_always _ c.change_value.result (λ not_root name named ss stands ordered headed.
+    absurd (never_held parent (text_of tree.texts.source) read tree.slots.items c.in-Some.place found ss stands ordered headed))
+
+pub returns-in-None-clause-below : goal.returns-in-None-clause-below
+returns-in-None-clause-below c =
+    on_ok_weaker c.insert_line.result (λ inserts not_root name named ss stands ordered headed. inserts name named ss stands headed) c.insert_line.ensures.below
