@@ -2,6 +2,7 @@ pub mod Shapes
 pub mod MadeEdits
 pub mod MakesExact
 pub mod PlainMade
+pub mod OneBelow
 pub mod OneChanged
 pub mod PassedSpread
 pub mod Judgements

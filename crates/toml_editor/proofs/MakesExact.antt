@@ -37,14 +37,15 @@ use Rattle.toml_text.specs.Source.{text_of}
 use Rattle.toml_layout.specs.declared.texts.Texts.{Texts}
 use Rattle.toml_working.proofs.Proved.{held_inside, parent_held}
 use Rattle.toml_working.specs.HeldLines.{has_container_at}
-use Rattle.toml_working.specs.RemoveStanding.{remove_standing}
 use Rattle.toml_working.specs.Standing.{Read, Standing, holds, standing}
 use Rattle.toml_working.specs.Stands.{Stands}
 use Rattle.toml_editor.specs.SpelledEdits.{AreSteps, step_spelled}
 use Rattle.toml_editor.specs.Steps.{AreWritten}
 use Rattle.toml_working.specs.Written.{IsWritten}
 use Rattle.toml_editor.proofs.written.Follow.{remove_follows, set_follows, set_is_there}
+use Rattle.toml_editor.proofs.written.HeadersAlone.{header_is_alone}
 use Rattle.toml_editor.proofs.written.InsertFollow.{insert_follows}
+use Rattle.toml_editor.proofs.written.RemoveNamed.{line_parts}
 use Rattle.toml_editor.proofs.written.RenameFollow.{rename_follows}
 use Rattle.toml_editor.proofs.written.StandingOrder.{rules_order}
 use Rattle.toml_editor.proofs.written.Steps.{one_list_written}
@@ -87,7 +88,7 @@ name_spelled q name p steps is spelled =
     last_of [] = refl
     last_of (s ∷ r) = last_of r
 
--- one that changes an array or an inline table in the value of a line, or takes out a line
+-- one that changes an array or an inline table in the value of a line
 put_there : (q : Address) (last : Step) (lines : List Line) → IsPutThere lines q last → list_any (holds q) (standing lines) ≡ true
 put_there q (Index i) lines there = there
 put_there q (Name n) lines held = parent_held q (Name n) (standing lines) held
@@ -119,16 +120,12 @@ holds_one profile read near (insert p value) old new done writes either text kin
         put = changed;
       },
     )
-holds_one profile read near (remove p) old new done writes either text kinds now at is_after (inl there) =
+holds_one profile read near (remove p) old new done writes either text kinds now at is_after there =
     let lines = at.good.tree.lines in
     let (not_root, inside) = held_inside p (standing lines) there in
     let held = (writes at.whole).1 not_root (standing lines) at.stands (rules_order lines at.good.good.0) inside in
     let (ts, stands, changed) = held.made (held.tells ∙ there) in
-    (ts, stands, inl (there, changed))
-holds_one profile read near (remove p) old new done writes either text kinds now at is_after (inr there) =
-    let lines = at.good.tree.lines in
-    let (rest, stands) = (writes at.whole).0 (standing lines) at.stands (rules_order lines at.good.good.0) there in
-    (remove_standing p (standing lines), stands, inr (there, refl))
+    (ts, stands, (there, changed))
 holds_one profile read near (set p value) old new done writes either text kinds now at is_after there = absurd there
 holds_one profile read near (rename p to) old new done writes either text kinds now at is_after there = absurd there
 holds_one profile read near (new_section p) old new done writes either text kinds now at is_after there = absurd there
@@ -137,13 +134,13 @@ holds_one profile read near (new_element p) old new done writes either text kind
 -- one that puts a name into a table with a header
 pub below_one : (profile : Profile) (read : Read) (c : Change) (old new : Tree) (done : Bool) → WritesEdit profile read c old new done
     → BelowOne profile read c old new
-below_one profile read (insert p value) old new done writes text kinds now at is_after (q, name, is, not_root, headed) =
+below_one profile read (insert p value) old new done writes text kinds now at is_after (q, name, is, not_root, header) =
     let (steps, rest, spelled, inserts, inside, below) = writes at.whole in
     let given = is_after.1.value in
     let lines = at.good.tree.lines in
     let named : IsNameIn q name p steps = record { at_is = is; steps_is = name_spelled q name p steps is spelled } in
     let (ts, stands, put) = below given.within given.tree given.is_value q (Name name) is not_root name named (standing lines) at.stands
-    (rules_order lines at.good.good.0) headed in
+    (rules_order lines at.good.good.0) (header_is_alone q lines at.good.good.0 header) in
     (ts, stands, record { table = q; name = name; is = is; tree = given.tree; is_value = given.is_value; put = put })
 below_one profile read (set p value) old new done writes text kinds now at is_after there = absurd there
 below_one profile read (rename p to) old new done writes text kinds now at is_after there = absurd there
@@ -153,10 +150,13 @@ below_one profile read (new_element p) old new done writes text kinds now at is_
 
 -- ---- edits that are not made
 
-no_element : (q : Address) (i : ℕ) (name : List ℕ) → ¬ (element q i ≡ Name name ∷ [])
-no_element [] i name is = cc
-no_element (s ∷ []) i name is = cc
-no_element (s ∷ t ∷ q) i name is = cc
+no_element : (q r : Address) (i : ℕ) (name : List ℕ) → ¬ (element q i ≡ child r name)
+no_element [] [] i name is = cc
+no_element [] (t ∷ []) i name is = cc
+no_element [] (t ∷ u ∷ r) i name is = cc
+no_element (s ∷ []) [] i name is = cc
+no_element (s ∷ u ∷ q) [] i name is = cc
+no_element (s ∷ q) (t ∷ r) i name is = let rest : element q i ≡ child r name = cc in no_element q r i name rest
 
 -- what holds what is put in, or taken out, is found
 put_is_found : (profile : Profile) (read : Read) (p : Address) (value : List ℕ) (old new : Tree) (done : Bool) → WritesEdit profile read (insert p value) old new done
@@ -190,7 +190,7 @@ not_spread profile read places i seen (set p value) old new done writes is may t
     ]
 not_spread profile read places i seen (insert p value) old new done writes is (q, j, at_index) text kinds now at none is_after one =
     elim (one at.good.tree at.good.spelled) [
-      | inl h ↦ no_element q j h.0 (sym at_index ∙ h.1)
+      | inl h ↦ no_element q [] j h.0 (sym at_index ∙ h.1)
       | inr h ↦ true≢false (sym (put_is_found profile read p value old new done writes text kinds now at is_after h) ∙ is)
     ]
 not_spread profile read places i seen (rename p to) old new done writes is may text kinds now at none is_after one = may
@@ -209,7 +209,7 @@ pub not_last : (profile : Profile) (read : Read) (seen : Kinds) (c : Change) (ol
     → done ≡ false → TakesLastElement c seen → IsNeitherOn profile read c old
 not_last profile read seen (remove p) old new done writes is (q, at_index, some, only) text kinds now at none is_after one =
     elim (one at.good.tree at.good.spelled) [
-      | inl h ↦ no_element q 0 h.0 (sym at_index ∙ h.1)
+      | inl h ↦ let (table, name, at_name) = line_parts p at.good.tree.lines h in no_element q table 0 name (sym at_index ∙ at_name)
       | inr h ↦ true≢false (sym (taken_is_found profile read p old new done writes text kinds at h) ∙ is)
     ]
 not_last profile read seen (set p value) old new done writes is takes text kinds now at none is_after one = takes

@@ -15,6 +15,7 @@ pub mod Exchanged
 pub mod Fitting
 pub mod Follow
 pub mod Formed
+pub mod HeadersAlone
 pub mod HeadersRenamed
 pub mod InsertFollow
 pub mod InsertFormed
@@ -28,6 +29,7 @@ pub mod LastLines
 pub mod Made
 pub mod Moved
 pub mod Nested
+pub mod OneSection
 pub mod OuterPairs
 pub mod PairsClear
 pub mod Pairwise
@@ -42,6 +44,7 @@ pub mod RenameKept
 pub mod RenameNamed
 pub mod RenameStanding
 pub mod RenameTexts
+pub mod RootPairs
 pub mod ScalarsLone
 pub mod SetFormed
 pub mod SetKept

@@ -2,7 +2,7 @@
 use Rattle.std.specs.Prelude.{◌≡◌, ℕ, List, [], ◌∷◌, ◌++◌, map}
 use Rattle.toml_tree.specs.Tree.{Value, Line}
 use Rattle.toml_names.specs.declared.mentions.mention.Role.TheVariants.{Valued}
-use Rattle.toml_names.specs.declared.model.address.Step.TheVariants.{Name}
+use Rattle.toml_names.specs.model.Addresses.{Address}
 use Rattle.toml_names.specs.mentions.Mentions.{Named, named, value_named, inside}
 
 -- the same thing, as of the first line
@@ -20,6 +20,6 @@ pub record IsPut (old block new : List Named) : Type 0 where
   pub before : old ≡ front ++ back
   pub after : new ≡ front ++ (block ++ back)
 
--- what the value of a name in the root names: itself, and what is in it
-abbrev pub root_pair : List ℕ → Value → List Named
-root_pair name v = value_named 0 Valued (Name name ∷ []) v ∷ inside 0 (Name name ∷ []) v
+-- what a value at an address names: itself, and what is in it
+abbrev pub pair_at : Address → Value → List Named
+pair_at at v = value_named 0 Valued at v ∷ inside 0 at v

@@ -36,8 +36,8 @@ NamesOuter before cs ps = OfTree before (λ d. (i : ℕ) → IsFirst ps i ↔ Is
 
 -- The text is certified to be what the edits make of the first one, by pairs that name the outer protected units. Of plain edits it is
 -- the one that they write in the layout, and none of the edits, where those before it are plain, sets what is spread. Of a last edit behind
--- plain ones, which changes an array or an inline table in the value of a line, takes out a line whose key is not dotted, or puts a name
--- into a table that has a header and that no dotted key makes, it is told what is written.
+-- plain ones, which changes an array or an inline table in the value of a line, or puts a name into a table that has a header, it is told
+-- what is written.
 pub record IsEditedWith (layout : Layout) (profile : Profile) (before : List ℕ) (cs : List Change) (after : List ℕ) (ps : List (ℕ × ℕ)) : Type 0
   where
     pub certified : Certified profile before cs after ps

@@ -23,7 +23,7 @@ use Rattle.toml_editor.specs.declared.fault.EditorFault.TheVariants.{Edit, LastE
 use Rattle.toml_working.specs.declared.working.Tree.{Tree}
 use Rattle.toml_working.specs.Becoming.{TreeRenames}
 use Rattle.toml_editor.specs.CertifiedLists.{ArePlain}
-use Rattle.toml_editor.specs.LastTexts.{ChangesLines, IsBelowHeader, IsHeldOrUndotted, PutsBelowHeader}
+use Rattle.toml_editor.specs.LastTexts.{ChangesLines, IsBelowHeader, IsInContainer, PutsBelowHeader}
 use Rattle.toml_layout.specs.declared.tree.Value.{Value as OpenValue}
 use Rattle.toml_layout.specs.Holding.{PutsHeld}
 use Rattle.toml_layout.specs.OpenOutlines.{leaf_text, value as open_outline}
@@ -167,12 +167,12 @@ LastMakesAs Is Makes profile read cs old new = (front : List Change) (c : Change
     → (between : List ℕ) → AreWritten profile front (manner old) text between → (e : Doc) → SpellsIn profile e between → Is e.lines c
     → (ts : List Standing) × Stands (text_of old.texts.source) read new.slots.items ts × Makes (manner old) c (standing e.lines) ts
 
--- so it is of edits that change an array or an inline table in the value of a line, or take out a line whose key is not dotted,
+-- so it is of edits that change an array or an inline table in the value of a line,
 abbrev pub HoldsOne : Profile → Read → Change → Tree → Tree → Type 0
-HoldsOne profile = MakesAs IsHeldOrUndotted (λ (m : Manner). ChangesLines m.layout profile) profile
+HoldsOne profile = MakesAs IsInContainer (λ (m : Manner). ChangesLines m.layout profile) profile
 
 abbrev pub HoldsLast : Profile → Read → List Change → Tree → Tree → Type 0
-HoldsLast profile = LastMakesAs IsHeldOrUndotted (λ (m : Manner). ChangesLines m.layout profile) profile
+HoldsLast profile = LastMakesAs IsInContainer (λ (m : Manner). ChangesLines m.layout profile) profile
 
 -- and of those that put a name into a table that has a header
 abbrev pub BelowOne : Profile → Read → Change → Tree → Tree → Type 0

@@ -13,7 +13,7 @@ use Rattle.toml_names.specs.model.Places.{IsNamed}
 use Rattle.toml_edits.specs.After.{IsAfter}
 use Rattle.toml_edits.specs.Edits.{insert}
 use Rattle.toml_edits.specs.ValueTexts.{IsGoodValue}
-use Rattle.toml_editor.specs.Blocks.{IsPut, root_pair, named_plain}
+use Rattle.toml_editor.specs.Blocks.{IsPut, pair_at, named_plain}
 use Rattle.toml_working.specs.Inserting.{new_line, line_behind, insert_lines}
 use Rattle.toml_working.specs.Manners.{Manner}
 use Rattle.toml_layout.specs.Spacings.{plain_spacing}
@@ -21,7 +21,7 @@ use Rattle.toml_layout.specs.Spacings.{plain_spacing}
 -- Law: the new lines name what the old ones did, and the name's value in the root.
 abbrev pub InsertNames : Type 0
 InsertNames = (name : List ℕ) (v : Value) (manner : Manner) (lines : List Line)
-    → IsPut (named_plain lines) (root_pair name v) (named_plain (insert_lines name v manner lines))
+    → IsPut (named_plain lines) (pair_at (Name name ∷ []) v) (named_plain (insert_lines name v manner lines))
 
 -- Laws: the table rules are kept, where the root has no such name and the value keeps them;
 abbrev pub InsertRules : Type 0

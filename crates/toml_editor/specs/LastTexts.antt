@@ -1,6 +1,6 @@
--- What is written where, behind plain edits, the last one changes an array or an inline table in the value of a line, takes out a line
--- whose key is not dotted, or puts a name into a table that has a header.
-use Rattle.std.specs.Prelude.{◌≡◌, ◌⊎◌, true, ℕ, List, [], ◌∷◌, ◌++◌, map}
+-- What is written where, behind plain edits, the last one changes an array or an inline table in the value of a line, or puts a name into
+-- a table that has a header.
+use Rattle.std.specs.Prelude.{◌≡◌, true, ℕ, List, [], ◌∷◌, ◌++◌, map}
 use Rattle.std.specs.List.{list_any}
 use Rattle.std.specs.declared.alloc.Global.{Global}
 use Rattle.std.specs.declared.string.String.{String}
@@ -9,6 +9,8 @@ use Rattle.toml_tree.specs.Tree.{Doc, Line, Value}
 use Rattle.toml_tree.specs.declared.profile.Profile.{Profile}
 use Rattle.toml_names.specs.declared.model.address.Step.{Step}
 use Rattle.toml_names.specs.declared.model.address.Step.TheVariants.{Index, Name}
+use Rattle.toml_names.specs.mentions.Mentions.{named}
+use Rattle.toml_names.specs.mentions.Rules.{KeepsRules}
 use Rattle.toml_names.specs.model.Addresses.{Address, child}
 use Rattle.toml_edits.specs.Edits.{Change, insert, remove}
 use Rattle.toml_checker.specs.Documents.{OfTree}
@@ -18,11 +20,11 @@ use Rattle.toml_layout.specs.Holding.{ChangesHolder, PutsHeld, TakesHeld}
 use Rattle.toml_layout.specs.OpenOutlines.{value}
 use Rattle.toml_layout.specs.Outlines.{lines_outlined}
 use Rattle.toml_layout.specs.TreeOutlines.{value_outline}
+use Rattle.toml_working.specs.declared.lines.Sought.TheVariants as sought
 use Rattle.toml_working.specs.HeldLines.{SetsEach, has_container_at}
 use Rattle.toml_working.specs.Manners.{Manner}
-use Rattle.toml_working.specs.RemoveStanding.{is_undotted_pair, remove_standing}
 use Rattle.toml_working.specs.Sections.{PutsInSection}
-use Rattle.toml_working.specs.Seeing.{AreHeaded}
+use Rattle.toml_working.specs.Seeing.{is_sought_line}
 use Rattle.toml_working.specs.Standing.{AreOrdered, Standing, holds, standing}
 use Rattle.toml_working.specs.Written.{manner_of}
 use Rattle.toml_editor.specs.CertifiedLists.{ArePlain}
@@ -43,14 +45,10 @@ pub record PutsValue (layout : Layout) (profile : Profile) (p : Address) (text :
 abbrev pub TakesValue : Layout → Address → List Standing → List Standing → Type 0
 TakesValue layout p old now = (list_any (has_container_at p) old ≡ true) × ChangesHolder SetsEach (TakesHeld layout) p old now
 
--- the line goes on which a key that is not dotted has the value at the address
-abbrev pub LosesLine : Address → List Standing → List Standing → Type 0
-LosesLine p old now = (list_any (is_undotted_pair p) old ≡ true) × (now ≡ remove_standing p old)
-
 -- what the edit makes of lines
 abbrev pub ChangesLines : Layout → Profile → Change → List Standing → List Standing → Type 0
 ChangesLines layout profile (insert p text) old now = PutsValue layout profile p text old now
-ChangesLines layout profile (remove p) old now = TakesValue layout p old now ⊎ LosesLine p old now
+ChangesLines layout profile (remove p) old now = TakesValue layout p old now
 ChangesLines layout profile _ old now = ⊥
 
 -- Law: what such an edit makes of lines that are as the table rules have them is one thing.
@@ -68,16 +66,11 @@ abbrev pub IsPutThere : List Line → Address → Step → Type 0
 IsPutThere lines q (Name name) = HasContainerAt lines (child q name)
 IsPutThere lines q (Index i) = list_any (holds q) (standing lines) ≡ true
 
--- a line has the value at the address, by a key that is not dotted
-abbrev pub HasLineAt : List Line → Address → Type 0
-HasLineAt lines p = list_any (is_undotted_pair p) (standing lines) ≡ true
-
--- the edit puts an element or a pair into an array or an inline table in the value of a line, takes one out, or takes out a line whose key
--- is not dotted
-abbrev pub IsHeldOrUndotted : List Line → Change → Type 0
-IsHeldOrUndotted lines (insert p text) = (q : Address) × (last : Step) × (p ≡ q ++ last ∷ []) × (¬ (q ≡ [])) × IsPutThere lines q last
-IsHeldOrUndotted lines (remove p) = HasContainerAt lines p ⊎ HasLineAt lines p
-IsHeldOrUndotted lines _ = ⊥
+-- the edit puts an element or a pair into an array or an inline table in the value of a line, or takes one out
+abbrev pub IsInContainer : List Line → Change → Type 0
+IsInContainer lines (insert p text) = (q : Address) × (last : Step) × (p ≡ q ++ last ∷ []) × (¬ (q ≡ [])) × IsPutThere lines q last
+IsInContainer lines (remove p) = HasContainerAt lines p
+IsInContainer lines _ = ⊥
 
 -- the text of what stands on lines
 abbrev pub standing_text : List Standing → List ℕ
@@ -92,15 +85,24 @@ pub record PutsNamed (profile : Profile) (p : Address) (text : List ℕ) (manner
   pub is_value : IsValueIn profile tree text
   pub put : PutsInSection table name (value_outline tree) manner old now
 
--- the edit puts a name into a table that is not the root, has a header, and is made by no dotted key
+-- lines have a header of the table
+abbrev pub HasHeader : List Line → Address → Type 0
+HasHeader lines q = list_any (is_sought_line sought.Header q) (standing lines) ≡ true
+
+-- the edit puts a name into a table that is not the root and has a header
 abbrev pub IsBelowHeader : List Line → Change → Type 0
-IsBelowHeader lines (insert p text) = (q : Address) × (name : List ℕ) × (p ≡ child q name) × (¬ (q ≡ [])) × AreHeaded q (standing lines)
+IsBelowHeader lines (insert p text) = (q : Address) × (name : List ℕ) × (p ≡ child q name) × (¬ (q ≡ [])) × HasHeader lines q
 IsBelowHeader lines _ = ⊥
 
 -- what it makes of lines
 abbrev pub PutsBelowHeader : Profile → Manner → Change → List Standing → List Standing → Type 0
 PutsBelowHeader profile manner (insert p text) old now = PutsNamed profile p text manner old now
 PutsBelowHeader profile manner _ old now = ⊥
+
+-- Law: what such an edit makes of lines that keep the table rules is one thing.
+abbrev pub OneBelow : Type 0
+OneBelow = (profile : Profile) (manner : Manner) (c : Change) (lines : List Line) (now new : List Standing) → KeepsRules (named lines) → IsBelowHeader lines c
+    → PutsBelowHeader profile manner c (standing lines) now → PutsBelowHeader profile manner c (standing lines) new → now ≡ new
 
 -- Where the edits before the last one are plain, and the last one is one of these on the text that they write, the text is the mark and what
 -- that makes of the lines.
@@ -111,9 +113,9 @@ WritesAs Is Makes layout profile before cs after = OfTree before (λ d. (front :
     → (e : Doc) → SpellsIn profile e between → Is e.lines c
     → (now : List Standing) × Makes (manner_of layout d.lines) c (standing e.lines) now × (after ≡ e.mark.text ++ standing_text now))
 
--- so it is of edits that change an array or an inline table in a value, or take out a line whose key is not dotted,
+-- so it is of edits that change an array or an inline table in a value,
 abbrev pub WritesLast : Layout → Profile → List ℕ → List Change → List ℕ → Type 0
-WritesLast layout profile = WritesAs IsHeldOrUndotted (λ (m : Manner). ChangesLines m.layout profile) layout profile
+WritesLast layout profile = WritesAs IsInContainer (λ (m : Manner). ChangesLines m.layout profile) layout profile
 
 -- and of those that put a name into such a table
 abbrev pub WritesBelowHeader : Layout → Profile → List ℕ → List Change → List ℕ → Type 0

@@ -1,10 +1,9 @@
--- Laws of `remove` of a name at the root that is one line, over the lines before and after it.
-use Rattle.std.specs.Prelude.{◌≡◌, ℕ, List, [], ◌∷◌, ◌++◌}
+-- Laws of `remove` of a value that a line has by a key that is not dotted, over the lines before and after it.
+use Rattle.std.specs.Prelude.{◌≡◌, List, ◌∷◌, ◌++◌}
 use Rattle.toml_tree.specs.Profiles.{AreLinesOfProfile}
 use Rattle.toml_tree.specs.Spells.{AreLines}
 use Rattle.toml_tree.specs.Tree.{Value, Expr, BlankLine, KeyValLine, TableLine, ArrayTableLine, Line}
 use Rattle.toml_tree.specs.declared.profile.Profile.{Profile}
-use Rattle.toml_names.specs.declared.model.address.Step.TheVariants.{Name}
 use Rattle.toml_names.specs.mentions.Keys.{key_names}
 use Rattle.toml_names.specs.mentions.Mentions.{Named, named, section}
 use Rattle.toml_names.specs.mentions.Rules.{KeepsRules}
@@ -13,26 +12,23 @@ use Rattle.toml_names.specs.model.Data.{Kinds, IsDataOf}
 use Rattle.toml_names.specs.reader.Names.{AreGood}
 use Rattle.toml_edits.specs.After.{IsAfter}
 use Rattle.toml_edits.specs.Edits.{remove}
-use Rattle.toml_editor.specs.Blocks.{IsPut, root_pair, named_plain}
+use Rattle.toml_editor.specs.Blocks.{IsPut, pair_at, named_plain}
 use Rattle.toml_working.specs.Removing.{left_behind, remove_lines}
-use Rattle.toml_working.specs.Written.{HasPair}
+use Rattle.toml_working.specs.Written.{HasLine}
 
--- Law: the old lines name what the new ones do, and the name's value in the root.
+-- Law: the old lines name what the new ones do, and the value.
 abbrev pub RemoveNames : Type 0
-RemoveNames = (name : List ℕ) (lines : List Line) → HasPair lines (Name name ∷ []) → KeepsRules (named lines)
-    → (v : Value) × IsPut (named_plain (remove_lines (Name name ∷ []) lines)) (root_pair name v) (named_plain lines)
+RemoveNames = (p : Address) (lines : List Line) → HasLine lines p → KeepsRules (named lines)
+    → (v : Value) × IsPut (named_plain (remove_lines p lines)) (pair_at p v) (named_plain lines)
 
 -- Law: the table rules and the bound on addresses are kept.
 abbrev pub RemoveGood : Type 0
-RemoveGood = (name : List ℕ) (lines : List Line) → HasPair lines (Name name ∷ [])
-    → AreGood lines → AreGood (remove_lines (Name name ∷ []) lines)
+RemoveGood = (p : Address) (lines : List Line) → HasLine lines p → AreGood lines → AreGood (remove_lines p lines)
 
 -- Law: the new lines have the data that the edit makes of those of the old.
 abbrev pub RemoveData : Type 0
-RemoveData = (profile : Profile) (name : List ℕ) (lines : List Line) (old after : Kinds)
-    → HasPair lines (Name name ∷ []) → KeepsRules (named lines)
-    → IsDataOf (named lines) old → IsDataOf (named (remove_lines (Name name ∷ []) lines)) after
-    → IsAfter profile (remove (Name name ∷ [])) old after
+RemoveData = (profile : Profile) (p : Address) (lines : List Line) (old after : Kinds) → HasLine lines p → KeepsRules (named lines)
+    → IsDataOf (named lines) old → IsDataOf (named (remove_lines p lines)) after → IsAfter profile (remove p) old after
 
 -- Law: the lines are in the forms.
 abbrev pub RemoveForms : Type 0
@@ -50,9 +46,8 @@ HasValueAt p earlier (KeyValLine ws pair tail) = below (section earlier) (key_na
 HasValueAt p earlier (TableLine ws header tail) = ⊥
 HasValueAt p earlier (ArrayTableLine ws header tail) = ⊥
 
--- Law: the line of the name goes; all others stay what they are.
+-- Law: the line goes; all others stay what they are.
 abbrev pub RemoveKeepsLines : Type 0
-RemoveKeepsLines = (name : List ℕ) (lines : List Line) → HasPair lines (Name name ∷ []) → KeepsRules (named lines)
-    → (front : List Line) × (l : Line) × (back : List Line) × (lines ≡ front ++ l ∷ back)
-    × HasValueAt (Name name ∷ []) (named front) l.expr
-    × (remove_lines (Name name ∷ []) lines ≡ front ++ (left_behind l ++ back))
+RemoveKeepsLines = (p : Address) (lines : List Line) → HasLine lines p → KeepsRules (named lines)
+    → (front : List Line) × (l : Line) × (back : List Line) × (lines ≡ front ++ l ∷ back) × HasValueAt p (named front) l.expr
+    × (remove_lines p lines ≡ front ++ (left_behind l ++ back))

@@ -1,10 +1,11 @@
 -- Laws of lines by what finds them.
-use Rattle.std.specs.Prelude.{◌≡◌, true, ℕ, List, [], ◌∷◌, map}
+use Rattle.std.specs.Prelude.{◌≡◌, true, ℕ, Any, List, [], ◌∷◌, map}
 use Rattle.std.specs.List.{list_any}
 use Rattle.toml_tree.specs.Bare.{bare_lines}
 use Rattle.toml_scalar.specs.Spelling.{spelled}
 use Rattle.toml_tree.specs.Spells.{AreLines}
 use Rattle.toml_tree.specs.Tree.{Value, Line}
+use Rattle.toml_names.specs.declared.mentions.mention.Role.TheVariants.{Valued}
 use Rattle.toml_names.specs.declared.model.address.Step.TheVariants.{Name}
 use Rattle.toml_names.specs.mentions.Mentions.{named}
 use Rattle.toml_names.specs.mentions.Rules.{KeepsRules}
@@ -15,12 +16,12 @@ use Rattle.toml_working.specs.Renaming.{rename_lines}
 use Rattle.toml_working.specs.InsertStanding.{AreRooted, insert_standing}
 use Rattle.toml_working.specs.Inserting.{insert_lines}
 use Rattle.toml_working.specs.Manners.{Manner}
-use Rattle.toml_working.specs.RemoveStanding.{is_undotted_pair, remove_standing}
+use Rattle.toml_working.specs.RemoveStanding.{remove_standing}
 use Rattle.toml_working.specs.Removing.{remove_lines}
 use Rattle.toml_working.specs.Setting.{set_lines}
 use Rattle.toml_working.specs.Standing.{AreOrdered, standing, set_standing, has}
 use Rattle.toml_layout.specs.TreeOutlines.{value_outline}
-use Rattle.toml_working.specs.Written.{HasPair, HasValue}
+use Rattle.toml_working.specs.Written.{HasLine, HasValue}
 
 -- Law: places do not count.
 abbrev pub PlacesDoNotStand : Type 0
@@ -58,10 +59,10 @@ abbrev pub InsertStands : Type 0
 InsertStands = (name : List ℕ) (new : Value) (manner : Manner) (lines : List Line) → AreLines lines
     → standing (insert_lines name new manner lines) ≡ insert_standing name (value_outline new) manner (standing lines)
 
--- Laws: the value of a name at the root stands on one of the lines, if a key has it, whose key is then not dotted,
-abbrev pub PairStands : Type 0
-PairStands = (name : List ℕ) (lines : List Line) → HasPair lines (Name name ∷ []) → KeepsRules (named lines)
-    → list_any (is_undotted_pair (Name name ∷ [])) (standing lines) ≡ true
+-- Laws: the value of a key at the root is that of a line whose key is not dotted,
+abbrev pub RootPairIsLine : Type 0
+RootPairIsLine = (name : List ℕ) (lines : List Line) → Any (λ m. (m.address ≡ Name name ∷ []) × (m.role ≡ Valued)) (named lines)
+    → HasLine lines (Name name ∷ [])
 
 -- and the lines after a `remove` are what the `remove` makes of the lines.
 abbrev pub RemoveStands : Type 0

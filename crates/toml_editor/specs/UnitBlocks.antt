@@ -1,6 +1,6 @@
--- Laws of the units after `insert` and `remove` at the root: one block more, or one less, between two lines. The newline of a line is
+-- Laws of the units after an `insert` at the root and the `remove` of a line: one block more, or one less, between two lines. The newline of a line is
 -- in no unit. All other units are as they were, with their pieces: a piece of edited lines has the place that it had before.
-use Rattle.std.specs.Prelude.{◌≡◌, ℕ, List, [], ◌∷◌, ◌++◌, Option, Some, None}
+use Rattle.std.specs.Prelude.{◌≡◌, ◌+◌, ℕ, List, [], ◌∷◌, ◌++◌, Option, Some, None, length}
 use Rattle.toml_scalar.specs.Spelling.{spelled}
 use Rattle.toml_tree.specs.Bare.{fresh}
 use Rattle.toml_tree.specs.Spells.{joined, value_parts, AreLines}
@@ -8,6 +8,7 @@ use Rattle.toml_tree.specs.Tree.{Piece, Value, Line}
 use Rattle.toml_names.specs.declared.model.address.Step.TheVariants.{Name}
 use Rattle.toml_names.specs.mentions.Mentions.{named}
 use Rattle.toml_names.specs.mentions.Rules.{KeepsRules}
+use Rattle.toml_names.specs.model.Addresses.{Address}
 use Rattle.toml_units.specs.declared.unit.UnitKind.TheVariants as kinds
 use Rattle.toml_units.specs.Units.{TextUnit, inside, comment_units, units}
 use Rattle.toml_layout.specs.declared.layout.Layout.TheVariants as layouts
@@ -15,13 +16,12 @@ use Rattle.toml_working.specs.Inserting.{insert_lines}
 use Rattle.toml_working.specs.Manners.{Manner}
 use Rattle.toml_working.specs.Removing.{remove_lines}
 use Rattle.toml_layout.specs.Spacings.{Spacing, plain_spacing}
-use Rattle.toml_working.specs.Written.{HasPair}
+use Rattle.toml_working.specs.Written.{HasLine}
 
--- a keyval line of a name in the root: itself, what lies in its value, and its comment
-abbrev pub root_line : Piece → List ℕ → Value → Option Piece → List TextUnit
-root_line piece name v comment =
-    let at = Some (Name name ∷ []) in
-    record { kind = kinds.Line; piece = piece; address = at; base = Some 0 } ∷ (inside (Name name ∷ []) v ++ comment_units kinds.TailComment at comment)
+-- a keyval line: itself, what lies in its value, and its comment; to the table in which it stands lead so many steps
+abbrev pub pair_line : Piece → Address → ℕ → Value → Option Piece → List TextUnit
+pair_line piece at base v comment =
+    record { kind = kinds.Line; piece = piece; address = Some at; base = Some base } ∷ (inside at v ++ comment_units kinds.TailComment (Some at) comment)
 
 -- a line of no bytes
 abbrev pub line_of_nothing : TextUnit
@@ -62,10 +62,10 @@ pair_text s name v = s.ws ++ (spelled name ++ (s.before_equals ++ 0x3D ∷ (s.af
 abbrev pub InsertUnits : Type 0
 InsertUnits = (name : List ℕ) (v : Value) (manner : Manner) (lines : List Line)
     → (s : Spacing) × (manner.layout ≡ layouts.Plain → s ≡ plain_spacing)
-    × IsBlockPut (units lines) (root_line (fresh (pair_text s name v)) name v None) (units (insert_lines name v manner lines))
+    × IsBlockPut (units lines) (pair_line (fresh (pair_text s name v)) (Name name ∷ []) 0 v None) (units (insert_lines name v manner lines))
 
--- Law: the units of the new lines are those of the old ones without those of the name's line.
+-- Law: the units of the new lines are those of the old ones without those of the line.
 abbrev pub RemoveUnits : Type 0
-RemoveUnits = (name : List ℕ) (lines : List Line) → AreLines lines → HasPair lines (Name name ∷ []) → KeepsRules (named lines)
-    → (piece : Piece) × (v : Value) × (comment : Option Piece)
-    × IsBlockTaken (units lines) (root_line piece name v comment) (units (remove_lines (Name name ∷ []) lines))
+RemoveUnits = (p : Address) (lines : List Line) → AreLines lines → HasLine lines p → KeepsRules (named lines)
+    → (piece : Piece) × (base : ℕ) × (v : Value) × (comment : Option Piece) × (length p ≡ base + 1)
+    × IsBlockTaken (units lines) (pair_line piece p base v comment) (units (remove_lines p lines))

@@ -5,13 +5,13 @@ ghost use Rattle.toml_editor.specs.CarriedLists.{ListIsCarried};
 ghost use Rattle.toml_editor.specs.CertifiedLists.{PartnersCertify, OuterAreNamed, OuterPartnersCertify, PlainListIsCertified};
 ghost use Rattle.toml_editor.specs.ChangedUnits.{SetUnits};
 ghost use Rattle.toml_editor.specs.PlainAnswers.{FirstFaultIsAnswered, FirstSpreadIsAnswered, LongIsAnswered, PlainIsAnswered};
-ghost use Rattle.toml_editor.specs.LastTexts.{OneChange};
+ghost use Rattle.toml_editor.specs.LastTexts.{OneBelow, OneChange};
 ghost use Rattle.toml_editor.specs.InsertLaws.{InsertNames, InsertRules, InsertShort, InsertData, InsertForms, InsertOfProfile, InsertKeepsLines};
 ghost use Rattle.toml_editor.specs.RemoveLaws.{RemoveNames, RemoveGood, RemoveData, RemoveForms, RemoveOfProfile, RemoveKeepsLines};
 ghost use Rattle.toml_editor.specs.RenameLaws.{RenameNames, RenameGood, RenameData, RenameForms, RenameOfProfile, RenameKeepsLine};
 ghost use Rattle.toml_editor.specs.RenamedHeaders.{RenameAlong, RenameAlongElement};
 ghost use Rattle.toml_editor.specs.RenamedUnits.{RenameUnits};
-ghost use Rattle.toml_editor.specs.StandingLaws.{InsertStands, PairStands, PlacesDoNotStand, RemoveStands, RenameStands, RootComesFirst};
+ghost use Rattle.toml_editor.specs.StandingLaws.{InsertStands, PlacesDoNotStand, RemoveStands, RenameStands, RootComesFirst, RootPairIsLine};
 ghost use Rattle.toml_editor.specs.StandingLaws.{RulesOrder, SetStands, StandingIsValue, ValueStands};
 ghost use Rattle.toml_working.specs.Renaming.{RenameIsOutlined};
 ghost use Rattle.toml_editor.specs.SetLaws.{SetNames, SetRules, SetShort, SetData, SetForms, SetOfProfile, SetWithin, SetElsewhere, SetKeepsLine};
@@ -42,8 +42,8 @@ pub fn inserts()
     ensures forms { InsertForms }
 {}
 
-/// After a `remove` of a name at the root that is one line the lines name what they named, without the name's value. They
-/// keep the table rules and the bound on addresses, have the data that the edit makes, and are in the forms.
+/// After a `remove` of a value that a line has, by a key that is not dotted, the lines name what they named, without the value and
+/// what is in it. They keep the table rules and the bound on addresses, have the data that the edit makes, and are in the forms.
 pub fn removes()
     ensures names { RemoveNames }
     ensures good { RemoveGood }
@@ -84,7 +84,7 @@ pub fn kept()
 {}
 
 /// Places aside, a line stays what it is and where it is, if a `set` is neither at its value nor in it; if a `rename` is at
-/// no part of a key in it. An `insert` puts in one line, and a `remove` takes out the line of the name; all others stay,
+/// no part of a key in it. An `insert` puts in one line, and a `remove` takes out the line of the value; all others stay,
 /// but that a last line gets a newline before the new one, and leaves one of no bytes.
 pub fn kept_lines()
     ensures set { SetKeepsLine }
@@ -103,7 +103,7 @@ pub fn bares()
 {}
 
 /// The units of edited lines. After an `insert` at the root they are those of before, and between two lines those of the new
-/// line, which has some whitespace, in layout `Plain` that of ` = `; after a `remove` of a line at the root they are those of
+/// line, which has some whitespace, in layout `Plain` that of ` = `; after a `remove` of a line they are those of
 /// before without its own, where a last line leaves one of no bytes. After a `rename` to a name that is free they are those of
 /// before, one by one, of the same kind and base, at the carried address, with the same text unless the edit changes the unit.
 /// After a `set` what lay in the old value is gone, the unit that has the value has the new one, what is in that comes behind it,
@@ -188,10 +188,10 @@ pub fn standing_inserted()
     ensures insert { InsertStands }
 {}
 
-/// The value of a name at the root is that of one of the lines, if a key has it, and the lines after a `remove` of it are
-/// what the `remove` makes of the lines, by what finds them.
+/// The value of a key at the root is that of a line whose key is not dotted, and the lines after a `remove` of a line are what the
+/// `remove` makes of the lines, by what finds them.
 pub fn standing_removed()
-    ensures pair { PairStands }
+    ensures root { RootPairIsLine }
     ensures remove { RemoveStands }
 {}
 
@@ -213,8 +213,9 @@ pub fn written_out()
     ensures text { TextIsWritten }
 {}
 
-/// What an edit makes that changes an array or an inline table in the value of a line, or takes out a line whose key is not dotted, is one
+/// What an edit makes that changes an array or an inline table in the value of a line, or puts a name into a table that has a header, is one
 /// thing in a layout, of lines that are as the table rules have them: so it has one text.
 pub fn one_change()
-    ensures { OneChange }
+    ensures held { OneChange }
+    ensures below { OneBelow }
 {}

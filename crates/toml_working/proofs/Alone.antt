@@ -1,6 +1,6 @@
 -- Of lines that stand alone at most one holds what stands at an address.
 use Rattle.std.proofs.Common.{◌≡◌, ◌∙◌, ℕ, zero, suc, ◌+◌, ◌<◌, ◌≤◌, Bool, true, false, ◌&&◌, ◌||◌, List, [], ◌∷◌, ◌++◌, length, take, Option, Some, None, refl, ap, sym, subst, arith, append_assoc, append-nil, true≢false}
-use Rattle.std.specs.Prelude.{option_map, slice_get, is_some, ◌^◌, IfSome, MatchOption}
+use Rattle.std.specs.Prelude.{option_map, slice_get, is_some, IfSome, MatchOption}
 use Rattle.std.specs.Option.{option_or}
 use Rattle.std.specs.List.{list_any}
 use Rattle.std.proofs.Math.ListN.{set}
@@ -19,7 +19,7 @@ use Rattle.toml_working.specs.declared.lines.Sought.TheVariants as kinds
 use Rattle.toml_working.specs.declared.working.Position.{Position}
 use Rattle.toml_working.specs.declared.working.TablePlace.{TablePlace}
 use Rattle.toml_working.specs.declared.working.TablePlace.TheVariants as places
-use Rattle.toml_working.specs.Seeing.{Found, found, is_sought, is_sought_line, heads, is_dotted, heads_below, read_by, line_at, FindsHeader, FindsHeaderIn, FindsLine, FindsTable, FindsHolder, FindsAny, FindsValue, AreHeaded, IsHeaderPlace, IsSoughtAt, IsTableLine, HoldsNone, LacksSought, MeetsHeader}
+use Rattle.toml_working.specs.Seeing.{Found, found, is_sought, is_sought_line, heads, is_dotted, heads_below, read_by, line_at, FindsLine, FindsTable, FindsHolder, FindsAny, FindsValue, AreHeaded, IsHeaderPlace, IsSoughtAt, IsTableLine, HoldsNone, LacksSought}
 use Rattle.toml_working.specs.Standing.{Standing, Read, StandAlone, lies_below, leads_to, covers_at, covers, is_below, holds, slot_standing, slots_standing}
 use Rattle.toml_layout.specs.Beginnings.{begins}
 use Rattle.toml_working.proofs.AtPlace.{slot_of}

@@ -8,6 +8,7 @@ mod Beginning
 mod Sought
 mod Placed
 mod Looked
+mod LookedUp
 mod Commented
 mod Put
 mod PutRoot

@@ -1,5 +1,5 @@
 -- How lines look, and lines that begin as others do.
-use Rattle.std.proofs.Common.{◌≡◌, ◌∙◌, inl, inr, ℕ, Bool, true, false, ◌&&◌, cond, List, [], ◌∷◌, Option, Some, None, refl, ap, sym}
+use Rattle.std.proofs.Common.{◌≡◌, ◌∙◌, ℕ, Bool, true, false, ◌&&◌, cond, List, [], ◌∷◌, Option, Some, None, refl, ap, ap₂, sym}
 use Rattle.std.specs.Global.{Box}
 use Rattle.std.specs.Prelude.{slice_get}
 use Rattle.toml_scalar.specs.Spelling.{spelled}
@@ -14,14 +14,18 @@ use Rattle.toml_layout.specs.declared.looks.Look.{Look}
 use Rattle.toml_layout.specs.declared.tree.Leaf.{Leaf}
 use Rattle.toml_layout.specs.declared.tree.OpenLine.{OpenLine}
 use Rattle.toml_working.specs.declared.working.Position.{Position}
-use Rattle.toml_working.specs.InsertStanding.{new_assign, new_outline, spaced_by, spacing_of}
+use Rattle.toml_names.specs.model.Addresses.{Address}
+use Rattle.toml_working.specs.FirstKeys.{alike_before, spacing_after, spacing_like, spacing_put}
+use Rattle.toml_working.specs.InsertStanding.{is_bare, new_assign, new_outline, spaced_by, spacing_behind, spacing_of}
+use Rattle.toml_working.specs.Manners.{Manner}
+use Rattle.toml_working.specs.Placing.{is_header, lines_before}
 use Rattle.toml_working.specs.Looking.{BeginsBehind, BodyBegins, LaysOut, LooksAt, SlotLooks}
-use Rattle.toml_layout.specs.Looks.{begun_as}
+use Rattle.toml_layout.specs.Looks.{LooksAs, around, begun_as, equals_in}
 use Rattle.toml_working.specs.OpeningLines.{HasOutline}
-use Rattle.toml_layout.specs.OpenOutlines.{line}
+use Rattle.toml_layout.specs.OpenOutlines.{leaf_text, line}
 use Rattle.toml_layout.specs.Outlines.{AssignOutline, LineOutline, Pair, ValueOutline}
 use Rattle.toml_layout.specs.Spacings.{is_narrow, laid_out, plain_spacing}
-use Rattle.toml_working.specs.Standing.{Read}
+use Rattle.toml_working.specs.Standing.{Read, Standing}
 use Rattle.toml_working.proofs.AtPlace.{line_in, no_line as no_place}
 
 -- ---- how lines look
@@ -37,8 +41,43 @@ no_place_looks read all at look none s e = absurd (no_place read all at s none e
 -- in layout `Follow`
 pub follow_lays : (layout : Layout) (read : Read) (all : List Slot) (at : Position) (ws : Leaf) (equals : Option Equals) → layout ≡ layouts.Follow
     → BeginsBehind read all at ws equals → LaysOut layout read all at ws equals
-follow_lays layout read all at ws equals is begins s e (inl head) = begins s e head ∙ sym (ap (λ l. laid_out l (spacing_of s.base s.outline)) is)
-follow_lays layout read all at ws equals is begins s e (inr plain) = let both : layouts.Follow ≡ layouts.Plain = sym is ∙ plain in cc
+follow_lays layout read all at ws equals is begins s e =
+    begins s e ∙ sym (ap (λ l. laid_out l (spacing_after (lines_before read all at.slot at.index) s.base s.address s.outline)) is)
+
+-- ---- the whitespace of a line behind another
+
+-- behind a line with neither a key nor a header,
+pub after_bare : (front : List Standing) (base : Option ℕ) (own : Option Address) (l : LineOutline) → is_bare base own ≡ true → spacing_after front base own l ≡ plain_spacing
+after_bare front (Some n) own l is = cc
+after_bare front None None l is = refl
+after_bare front None (Some a) l is = cc
+
+-- one with a key and a value,
+pub after_pair : (front : List Standing) (base : Option ℕ) (own : Option Address) (l : LineOutline) → is_bare base own ≡ false → is_header base own ≡ false
+    → spacing_after front base own l ≡ spaced_by l.ws (equals_in l.expr)
+after_pair front (Some n) own l bare head = refl
+after_pair front None None l bare head = cc
+after_pair front None (Some a) l bare head = cc
+
+-- and a header
+pub after_header : (front : List Standing) (base : Option ℕ) (own : Option Address) (l : LineOutline) → is_header base own ≡ true
+    → spacing_after front base own l ≡ spacing_like l.ws (alike_before l.ws front)
+after_header front (Some n) own l is = cc
+after_header front None None l is = cc
+after_header front None (Some a) l is = refl
+
+-- behind no header it is that of the line
+pub put_behind_no_header : (manner : Manner) (front : List Standing) (s : Standing) → is_header s.base s.address ≡ false → spacing_put manner front s ≡ spacing_behind manner s
+put_behind_no_header manner front s not = ap (laid_out manner.layout) (by s.base s.address not)
+  where
+    by : (base : Option ℕ) (own : Option Address) → is_header base own ≡ false → spacing_after front base own s.outline ≡ spacing_of base s.outline
+    by (Some n) own h = refl
+    by None None h = refl
+    by None (Some a) h = cc
+
+-- a line that looks so has this whitespace
+pub looks_spaced : (look : Look) (l : LineOutline) → LooksAs look l → spaced_by (leaf_text look.ws) (around look.equals) ≡ spaced_by l.ws (equals_in l.expr)
+looks_spaced look l looks = ap₂ spaced_by looks.ws looks.equals
 
 -- ---- lines that begin as others do
 

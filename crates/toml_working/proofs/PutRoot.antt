@@ -19,7 +19,8 @@ use Rattle.toml_layout.specs.declared.texts.Texts.{Texts}
 use Rattle.toml_layout.specs.declared.tree.Assign.{Assign}
 use Rattle.toml_layout.specs.declared.tree.Leaf.{Leaf}
 use Rattle.toml_working.specs.declared.working.Position.{Position}
-use Rattle.toml_working.specs.InsertStanding.{RootIsFirst, goes_below, has_comment, has_pair, insert_behind, insert_first, is_bare, line_behind, line_put, new_outline, new_standing, new_standing_in, pair_or, spaced_by, spacing_behind}
+use Rattle.toml_working.specs.FirstKeys.{spacing_put}
+use Rattle.toml_working.specs.InsertStanding.{RootIsFirst, goes_below, has_comment, has_pair, insert_behind, insert_first, is_bare, line_behind, line_put, new_outline, new_standing, new_standing_in, pair_or}
 use Rattle.toml_working.specs.Looking.{BodyBegins, LaysOut}
 use Rattle.toml_layout.specs.Looks.{around, begun_as}
 use Rattle.toml_working.specs.Manners.{Manner}
@@ -36,7 +37,7 @@ use Rattle.toml_working.specs.Standing.{Standing, Read, body_outline, line_stand
 use Rattle.toml_working.specs.Stands.{BodyKept, Stands}
 use Rattle.toml_working.proofs.AtPlace.{slot_of}
 use Rattle.toml_working.proofs.Commented.{found_below}
-use Rattle.toml_working.proofs.Looked.{begun_new, body_begun}
+use Rattle.toml_working.proofs.Looked.{begun_new, body_begun, put_behind_no_header}
 use Rattle.toml_working.proofs.Placed.{behind_line, split_at}
 
 line_put_is : (q : Address) (spacing : Spacing) (name : List ℕ) (v : ValueOutline) (manner : Manner) (s : Standing) (newline : List ℕ)
@@ -69,7 +70,6 @@ puts_behind own base steps v manner texts read place next old mid now newline ws
     let (kept_mid, ended) = ends kept in
     let (becomes, newline_is) = ended s e in
     let (own_is, base_is, outlined) = is_line q at_base name root in
-    let spacing = spaced_by (leaf_text ws) (around equals) in
     let begun = body_begun (leaf_text ws) (around equals) l.body laid.body (new_outline plain_spacing name v newline) outlined begins in
     let stands = stands_new read q name (begun_as (leaf_text ws) (around equals) (new_outline plain_spacing name v newline)) laid (address ∙ own_is) (base_same ∙ base_is) begun in
     let within : next.slot < length mid = subst (λ k. k < length mid) (sym slot) (subst (λ n. place.slot < n) (sym becomes.count) (slot_there read old place s e)) in
@@ -77,11 +77,10 @@ puts_behind own base steps v manner texts read place next old mid now newline ws
     let before : lines_before read mid next.slot next.index ≡ lines_before read old place.slot place.index ++ ended_before manner.newline s s.outline.newline ∷ [] =
     ap₂ (lines_before read mid) slot (index low) ∙ becomes.before in
     let behind : lines_from read mid next.slot next.index ≡ lines_from read old place.slot (place.index + 1) = ap₂ (lines_from read mid) slot (index low) ∙ becomes.behind in
+    let spacing = spacing_put manner (lines_before read old place.slot place.index) s in
     let new : line_standing read laid ≡ new_standing_in q spacing name v (newline_behind manner.newline s.outline.newline) =
     stands ∙ ap (λ o. record { address = Some (q ++ Name name ∷ []); base = Some (length q); outline = o }) (begun_new (leaf_text ws) (around equals) name v newline)
-    ∙ ap (new_standing_in q spacing name v) newline_is in (
-      spacing,
-      lays s e,
+    ∙ ap₂ (λ x n. new_standing_in q x name v n) (lays s e) newline_is in (
       kept_now,
       are ∙ ap₂ (λ x y. x ++ line_standing read laid ∷ y) before behind
           ∙ append_assoc (lines_before read old place.slot place.index) (ended_before manner.newline s s.outline.newline ∷ []) (line_standing read laid ∷ lines_from read old place.slot (place.index + 1))
@@ -165,9 +164,9 @@ pub behind_root : (own : Address) (steps : List (String Global)) (v : ValueOutli
 behind_root own steps v manner texts read place old now finds puts name root ss stands rooted =
     let last = finds (subst RootIsFirst (sym stands.are) rooted.first) in
     let s = last.line in
-    let (spacing, laid, kept_now, put_at) = puts [] refl name root last.next stands.kept s last.there in
+    let (kept_now, put_at) = puts [] refl name root last.next stands.kept s last.there in
     let are = subst (λ x. slots_standing read now ≡ lines_before read old place.slot place.index ++ (line_put [] x name v manner s s.outline.newline ++ lines_from read old place.slot (place.index + 1)))
-    (laid (inl (pair_no_header s last.back last.pair))) put_at in
+    (put_behind_no_header manner (lines_before read old place.slot place.index) s (pair_no_header s last.back last.pair)) put_at in
     let split : ss ≡ last.front ++ s ∷ last.back = sym stands.are ∙ last.is in
     let has : has_pair ss ≡ true = ap has_pair split ∙ has_front s last.back last.pair last.front last.heads in
     record {
@@ -233,9 +232,9 @@ pub below_comments : (own : Address) (steps : List (String Global)) (v : ValueOu
 below_comments own steps v manner texts read place old now follows found puts name root ss stands rooted no_pair =
     let last = found.last in
     let s = last.line in
-    let (spacing, laid, kept_now, put_at) = puts [] refl name root last.next stands.kept s last.there in
+    let (kept_now, put_at) = puts [] refl name root last.next stands.kept s last.there in
     let are = subst (λ x. slots_standing read now ≡ lines_before read old place.slot place.index ++ (line_put [] x name v manner s s.outline.newline ++ lines_from read old place.slot (place.index + 1)))
-    (laid (inl (comment_no_header s last.comment))) put_at in
+    (put_behind_no_header manner (lines_before read old place.slot place.index) s (comment_no_header s last.comment)) put_at in
     let split : ss ≡ last.front ++ s ∷ found.rest = sym stands.are ∙ last.is in
     let below : goes_below manner.layout ss ≡ true =
     ap₂ goes_below follows split ∙ found_below s found.rest last.comment found.ends last.front last.comments in

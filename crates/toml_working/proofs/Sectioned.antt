@@ -1,31 +1,29 @@
 -- A line with a key and a value that is put into the section of a table.
-use Rattle.std.proofs.Common.{◌≡◌, ◌∙◌, ◌⊎◌, inl, inr, ℕ, ◌+◌, ◌^◌, ◌<◌, Bool, true, false, ◌&&◌, ◌==◌, List, [], ◌∷◌, ◌++◌, length, Option, Some, None, refl, ap, ap₂, sym, subst, append_assoc, true≢false}
+use Rattle.std.proofs.Common.{◌≡◌, ◌∙◌, inl, inr, ℕ, ◌+◌, ◌^◌, ◌<◌, true, false, List, [], ◌∷◌, ◌++◌, length, Option, Some, None, refl, ap, ap₂, sym, subst, append_assoc, true≢false}
 use Rattle.std.specs.Prelude.{IfSome, MatchOption, option_map}
 use Rattle.std.specs.List.{list_any}
 use Rattle.std.specs.Option.{unwrap_or}
 use Rattle.std.specs.declared.alloc.Global.{Global}
 use Rattle.std.specs.declared.string.String.{String}
-use Rattle.std.proofs.lemmas.Bool.{and_parts}
 use Rattle.std.proofs.lemmas.List.{append_cancel_right}
 use Rattle.std.proofs.lemmas.Option.{none-some, same_Some}
 use Rattle.toml_names.specs.declared.model.address.Step.{Step}
 use Rattle.toml_names.specs.declared.model.address.Step.TheVariants.{Name}
 use Rattle.toml_names.specs.model.Addresses.{Address}
 use Rattle.toml_text.specs.Source.{text_of}
-use Rattle.toml_tree.specs.Tree as tree
 use Rattle.toml_units.specs.declared.unit.Unit.{Unit as ReadUnit}
-use Rattle.toml_layout.specs.Beginnings.{begins}
 use Rattle.toml_layout.specs.Outlines.{ValueOutline}
 use Rattle.toml_layout.specs.declared.texts.Texts.{Texts}
 use Rattle.toml_working.specs.declared.lines.Seen.{Seen}
 use Rattle.toml_working.specs.declared.lines.Slot.{Slot}
 use Rattle.toml_working.specs.declared.lines.Sought.TheVariants as kinds
 use Rattle.toml_working.specs.declared.working.Position.{Position}
+use Rattle.toml_working.specs.FirstKeys.{spacing_put}
 use Rattle.toml_working.specs.InsertStanding.{has_pair, line_put}
 use Rattle.toml_working.specs.Manners.{Manner}
-use Rattle.toml_working.specs.Placing.{FindsLast, FindsLastOf, IsLastPair, lines_before, lines_from}
+use Rattle.toml_working.specs.Placing.{FindsLast, lines_before, lines_from}
 use Rattle.toml_working.specs.Putting.{PutsBehind}
-use Rattle.toml_working.specs.Sections.{EndsSection, FindsSectionEnd, InsertsBelow, IsBehindHeader, IsEndFrom, IsOfSectionAt, PutsInSection, StandsBelow, is_of_section, stands_in}
+use Rattle.toml_working.specs.Sections.{EndsSection, FindsSectionEnd, InsertsBelow, IsBehindHeader, IsEndFrom, IsOfSectionAt, is_of_section, stands_in}
 use Rattle.toml_working.specs.Seeing.{AreHeaded, Found, IsSoughtAt, SeesAt, found, is_sought_line, line_at, read_by, seen}
 use Rattle.toml_working.specs.Standing.{Standing, Read, AreOrdered, StandAlone, holds, slots_standing}
 use Rattle.toml_working.specs.Stands.{Stands}
@@ -86,7 +84,7 @@ module _ (q own : Address) (base : ℕ) (steps : List (String Global)) (v : Valu
   puts_first none puts name named ss stands headed =
       let (sought, low) = finds (subst (AreHeaded q) (sym stands.are) headed) in
       let (h, there, heads) = header_here q read old header sought in
-      let (spacing, laid, kept, are) = puts q at_base name named low stands.kept h there in
+      let (kept, are) = puts q at_base name named low stands.kept h there in
       let behind : lines_from read old next.slot next.index ≡ lines_from read old header.slot (header.index + 1) = ap₂ (lines_from read old) slot (index low) in (
         slots_standing read now,
         record { kept = kept; are = refl },
@@ -97,8 +95,6 @@ module _ (q own : Address) (base : ℕ) (steps : List (String Global)) (v : Valu
           was = sym stands.are ∙ behind_header low h there ∙ ap (λ r. lines_before read old header.slot header.index ++ h ∷ r) behind;
           last = ap has_pair (sym behind) ∙ none;
           below = inl heads;
-          spacing = spacing;
-          laid = laid;
           is = are;
         },
       )
@@ -110,7 +106,7 @@ module _ (q own : Address) (base : ℕ) (steps : List (String Global)) (v : Valu
       let (sought, low) = finds (subst (AreHeaded q) (sym stands.are) headed) in
       let (h, there, heads) = header_here q read old header sought in
       let last = ends.last in
-      let (spacing, laid, kept, are) = puts q at_base name named last.next stands.kept last.line last.there in
+      let (kept, are) = puts q at_base name named last.next stands.kept last.line last.there in
       let split : slots_standing read old ≡ lines_before read old at.slot at.index ++ last.line ∷ last.back =
       split_at read old at.slot at.index ∙ ap (λ r. lines_before read old at.slot at.index ++ r) last.from in
       let behind : last.back ≡ lines_from read old at.slot (at.index + 1) = behind_line read old at last.line last.back last.there last.from in
@@ -138,9 +134,9 @@ module _ (q own : Address) (base : ℕ) (steps : List (String Global)) (v : Valu
             | inl same ↦ inr (inr (last.pair, below_header same))
             | inr of_section ↦ inr (inl of_section)
           ];
-          spacing = spacing;
-          laid = laid;
-          is = are ∙ ap (λ r. lines_before read old at.slot at.index ++ (line_put q spacing name v manner last.line last.line.outline.newline ++ r)) (sym behind);
+          is =
+              are
+              ∙ ap (λ r. lines_before read old at.slot at.index ++ (line_put q (spacing_put manner (lines_before read old at.slot at.index) last.line) name v manner last.line last.line.outline.newline ++ r)) (sym behind);
         },
       )
 

@@ -12,7 +12,9 @@ pub mod Stands
 pub mod Starting
 pub mod Writing
 pub mod OpeningLines
+pub mod FirstKeys
 pub mod Looking
+pub mod LookingUp
 pub mod OpeningComments
 pub mod RenameStanding
 pub mod Turning

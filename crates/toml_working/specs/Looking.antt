@@ -1,9 +1,8 @@
 -- How lines of the working tree look: what a new line takes of them.
-use Rattle.std.specs.Prelude.{◌≡◌, ◌⊎◌, ℕ, List, Option, Some, slice_get}
+use Rattle.std.specs.Prelude.{◌≡◌, ℕ, List, Option, Some, slice_get}
 use Rattle.toml_tree.specs.Tree as tree
 use Rattle.toml_units.specs.declared.unit.Unit.{Unit as ReadUnit}
 use Rattle.toml_layout.specs.declared.layout.Layout.{Layout}
-use Rattle.toml_layout.specs.declared.layout.Layout.TheVariants as layouts
 use Rattle.toml_layout.specs.Looks.{LooksAs, around, begun_as}
 use Rattle.toml_working.specs.declared.lines.Body.{Body}
 use Rattle.toml_working.specs.declared.lines.Body.TheVariants as bodies
@@ -13,10 +12,11 @@ use Rattle.toml_layout.specs.declared.looks.Equals.{Equals}
 use Rattle.toml_layout.specs.declared.looks.Look.{Look}
 use Rattle.toml_layout.specs.declared.tree.Leaf.{Leaf}
 use Rattle.toml_working.specs.declared.working.Position.{Position}
-use Rattle.toml_working.specs.InsertStanding.{spaced_by, spacing_of}
+use Rattle.toml_working.specs.FirstKeys.{spacing_after}
+use Rattle.toml_working.specs.InsertStanding.{spaced_by}
 use Rattle.toml_working.specs.OpeningLines.{HasOutline}
 use Rattle.toml_layout.specs.OpenOutlines.{leaf_text, line}
-use Rattle.toml_working.specs.Placing.{IsNoHeader}
+use Rattle.toml_working.specs.Placing.{lines_before}
 use Rattle.toml_working.specs.Seeing.{line_at, read_by}
 use Rattle.toml_layout.specs.Spacings.{laid_out}
 use Rattle.toml_working.specs.Standing.{Standing, Read, body_outline, outline_of, slot_standing}
@@ -35,19 +35,15 @@ SlotLooks lines slot index look = (units : List ReadUnit) (s : Standing) → sli
 abbrev pub LooksAt : Read → List Slot → Position → Look → Type 0
 LooksAt read slots at look = (s : Standing) → line_at read slots at ≡ Some s → LooksAs look s.outline
 
--- it is told with which whitespace a line behind this one begins, and what stands around its `=`: behind a header in `Plain` alone
-abbrev pub IsSpacingTold : Layout → Standing → Type 0
-IsSpacingTold layout s = IsNoHeader s ⊎ (layout ≡ layouts.Plain)
-
--- a line behind the one at the place, if that is no header, begins with this whitespace, and has this around its `=`
+-- a line behind the one at the place begins with this whitespace, and has this around its `=`: in layout `Follow`,
 abbrev pub BeginsBehind : Read → List Slot → Position → Leaf → Option Equals → Type 0
-BeginsBehind read slots at ws equals = (s : Standing) → line_at read slots at ≡ Some s → IsNoHeader s
-    → spaced_by (leaf_text ws) (around equals) ≡ spacing_of s.base s.outline
+BeginsBehind read slots at ws equals = (s : Standing) → line_at read slots at ≡ Some s
+    → spaced_by (leaf_text ws) (around equals) ≡ spacing_after (lines_before read slots at.slot at.index) s.base s.address s.outline
 
--- so it does in a layout
+-- and in one of the two
 abbrev pub LaysOut : Layout → Read → List Slot → Position → Leaf → Option Equals → Type 0
-LaysOut layout read slots at ws equals = (s : Standing) → line_at read slots at ≡ Some s → IsSpacingTold layout s
-    → spaced_by (leaf_text ws) (around equals) ≡ laid_out layout (spacing_of s.base s.outline)
+LaysOut layout read slots at ws equals = (s : Standing) → line_at read slots at ≡ Some s
+    → spaced_by (leaf_text ws) (around equals) ≡ laid_out layout (spacing_after (lines_before read slots at.slot at.index) s.base s.address s.outline)
 
 -- what stands on a line begins so, if it is opened
 abbrev pub BodyBegins : List ℕ → Option (List ℕ × List ℕ) → Body → Body → Type 0

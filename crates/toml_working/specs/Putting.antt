@@ -14,15 +14,15 @@ use Rattle.toml_layout.specs.declared.texts.Texts.{Texts}
 use Rattle.toml_working.specs.declared.working.Position.{Position}
 use Rattle.toml_working.specs.declared.working.Tree.{Tree}
 use Rattle.toml_working.specs.Becoming.{LineBecomes}
-use Rattle.toml_working.specs.InsertStanding.{AreRooted, end_in, has_pair, insert_first, insert_standing, line_put, new_outline, spacing_behind}
+use Rattle.toml_working.specs.FirstKeys.{spacing_put}
+use Rattle.toml_working.specs.InsertStanding.{AreRooted, end_in, has_pair, insert_first, insert_standing, line_put, new_outline}
 use Rattle.toml_working.specs.Manners.{Manner}
 use Rattle.toml_working.specs.OpeningLines.{HasOutline}
 use Rattle.toml_layout.specs.OpenOutlines.{leaf_text}
 use Rattle.toml_layout.specs.Outlines.{ValueOutline}
 use Rattle.toml_working.specs.Placing.{lines_before, lines_from}
 use Rattle.toml_working.specs.Seeing.{line_at}
-use Rattle.toml_working.specs.Looking.{IsSpacingTold}
-use Rattle.toml_layout.specs.Spacings.{Spacing, plain_spacing}
+use Rattle.toml_layout.specs.Spacings.{plain_spacing}
 use Rattle.toml_working.specs.Standing.{Standing, Read, line_standing, slot_standing, slots_standing}
 use Rattle.toml_working.specs.Stands.{BodyKept, SlotKept, Stands}
 use Rattle.toml_working.specs.Turning.{OneTurns, SlotTurns}
@@ -119,10 +119,8 @@ abbrev pub PutsBehind : Address → ℕ → List (String Global) → ValueOutlin
 PutsBehind at base steps v manner texts read place old now = (q : Address) → base ≡ length q → (name : List ℕ) → IsNameIn q name at steps
     → place.index + 1 < 2 ^ 64 → EachIs (SlotKept (text_of texts.source) read) old
     → (s : Standing) → line_at read old place ≡ Some s
-    → (spacing : Spacing) × (IsSpacingTold manner.layout s → spacing ≡ spacing_behind manner s)
-    × EachIs (SlotKept (text_of texts.source) read) now
-    × (slots_standing read now ≡ lines_before read old place.slot place.index
-    ++ (line_put q spacing name v manner s s.outline.newline ++ lines_from read old place.slot (place.index + 1)))
+    → let front = lines_before read old place.slot place.index in EachIs (SlotKept (text_of texts.source) read) now
+    × (slots_standing read now ≡ front ++ (line_put q (spacing_put manner front s) name v manner s s.outline.newline ++ lines_from read old place.slot (place.index + 1)))
 
 -- so it is of the lines of a tree
 abbrev pub TreePutsBehind : Address → ℕ → List (String Global) → ValueOutline → Read → Position → Tree → Tree → Type 0

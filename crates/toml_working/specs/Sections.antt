@@ -9,13 +9,12 @@ use Rattle.toml_tree.specs.Tree as tree
 use Rattle.toml_units.specs.declared.unit.Unit.{Unit as ReadUnit}
 use Rattle.toml_layout.specs.Beginnings.{begins}
 use Rattle.toml_layout.specs.Outlines.{ValueOutline}
-use Rattle.toml_layout.specs.Spacings.{Spacing}
 use Rattle.toml_working.specs.declared.lines.Slot.{Slot}
 use Rattle.toml_working.specs.declared.lines.Sought.TheVariants as kinds
 use Rattle.toml_working.specs.declared.working.Position.{Position}
 use Rattle.toml_working.specs.declared.working.Tree.{Tree}
-use Rattle.toml_working.specs.InsertStanding.{has_pair, line_put, spacing_behind}
-use Rattle.toml_working.specs.Looking.{IsSpacingTold}
+use Rattle.toml_working.specs.FirstKeys.{spacing_put}
+use Rattle.toml_working.specs.InsertStanding.{has_pair, line_put}
 use Rattle.toml_working.specs.Manners.{Manner}
 use Rattle.toml_working.specs.Placing.{IsLastPair, IsNoHeader, IsPair, lines_from}
 use Rattle.toml_working.specs.Putting.{IsNameIn, manner}
@@ -62,7 +61,7 @@ abbrev pub StandsBelow : Address → List Standing → Standing → Type 0
 StandsBelow q front s = (is_sought_line kinds.Header q s ≡ true) ⊎ (is_of_section q s ≡ true) ⊎ (IsPair s × IsBehindHeader q front)
 
 -- The new line stands behind the last one with a key and a value in the section of the table, or behind its header, where the section has
--- none. Its whitespace is that of the layout; in `Follow` no word here tells which it is behind a header, nor that it is whitespace.
+-- none, with the whitespace of the layout.
 pub record PutsInSection (q : Address) (name : List ℕ) (v : ValueOutline) (manner : Manner) (old now : List Standing) : Type 0 where
   pub front : List Standing
   pub line : Standing
@@ -70,9 +69,7 @@ pub record PutsInSection (q : Address) (name : List ℕ) (v : ValueOutline) (man
   pub was : old ≡ front ++ line ∷ back
   pub last : has_pair back ≡ false
   pub below : StandsBelow q front line
-  pub spacing : Spacing
-  pub laid : IsSpacingTold manner.layout line → spacing ≡ spacing_behind manner line
-  pub is : now ≡ front ++ (line_put q spacing name v manner line line.outline.newline ++ back)
+  pub is : now ≡ front ++ (line_put q (spacing_put manner front line) name v manner line line.outline.newline ++ back)
 
 -- so it is put into a table that has a header and that no dotted key makes
 abbrev pub InsertsBelow : Address → Address → List (String Global) → ValueOutline → Manner → List ℕ → Read → List Slot → List Slot → Type 0

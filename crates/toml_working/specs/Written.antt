@@ -1,5 +1,6 @@
 -- The text after one plain edit.
 use Rattle.std.specs.Prelude.{◌≡◌, true, ℕ, List, [], ◌∷◌, ◌++◌, Any, length, ◌==◌, if◌then◌else◌}
+use Rattle.std.specs.List.{list_any}
 use Rattle.toml_tree.specs.Profiles.{SpellsIn, IsValueIn}
 use Rattle.toml_tree.specs.Spells.{joined, lines_parts}
 use Rattle.toml_tree.specs.Tree.{Value, Line, Doc}
@@ -8,14 +9,15 @@ use Rattle.toml_names.specs.model.Addresses.{Address}
 use Rattle.toml_names.specs.mentions.Joining.{is_lone}
 use Rattle.toml_names.specs.mentions.Mentions.{named}
 use Rattle.toml_names.specs.declared.model.address.Step.TheVariants.{Name}
-use Rattle.toml_names.specs.declared.mentions.mention.Role.TheVariants.{Valued}
 use Rattle.toml_edits.specs.Edits.{Change, set, insert, rename, remove}
 use Rattle.toml_layout.specs.declared.layout.Layout.{Layout}
 use Rattle.toml_working.specs.Manners.{Manner}
 use Rattle.toml_working.specs.Setting.{set_lines}
 use Rattle.toml_working.specs.Inserting.{insert_lines}
 use Rattle.toml_working.specs.Removing.{remove_lines}
+use Rattle.toml_working.specs.RemoveStanding.{is_undotted_pair}
 use Rattle.toml_working.specs.Renaming.{rename_lines}
+use Rattle.toml_working.specs.Standing.{standing}
 
 -- the newline of the first line, or LF where there is none
 abbrev pub style_of : List Line → List ℕ
@@ -30,9 +32,9 @@ manner_of layout lines = record { newline = style_of lines; layout = layout }
 abbrev pub HasValue : List Line → Address → Type 0
 HasValue lines p = Any (λ m. (m.address ≡ p) × (is_lone m.role ≡ true)) (named lines)
 
--- a key's value stands there
-abbrev pub HasPair : List Line → Address → Type 0
-HasPair lines p = Any (λ m. (m.address ≡ p) × (m.role ≡ Valued)) (named lines)
+-- a line has the value there, by a key that is not dotted
+abbrev pub HasLine : List Line → Address → Type 0
+HasLine lines p = list_any (is_undotted_pair p) (standing lines) ≡ true
 
 -- the lines after a plain edit; the manner is that of the text before all edits
 abbrev pub AreEdited : Profile → Change → Manner → List Line → List Line → Type 0
@@ -40,7 +42,7 @@ AreEdited profile (set p text) manner old new = (v : Value) × IsValueIn profile
 AreEdited profile (insert p text) manner old new =
     (v : Value) × IsValueIn profile v text × (name : List ℕ) × (p ≡ Name name ∷ []) × (new ≡ insert_lines name v manner old)
 AreEdited profile (rename p to) manner old new = new ≡ rename_lines p to old
-AreEdited profile (remove p) manner old new = (name : List ℕ) × (p ≡ Name name ∷ []) × HasPair old p × (new ≡ remove_lines p old)
+AreEdited profile (remove p) manner old new = HasLine old p × (new ≡ remove_lines p old)
 AreEdited profile _ manner old new = ⊥
 
 -- the text after it, the mark kept

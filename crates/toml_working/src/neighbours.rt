@@ -1,6 +1,8 @@
 //! What stands beside a line, by layout `Follow`: where a line with a key and a value goes, and how it begins.
 ghost use Rattle.std.specs.Prelude.{IfOk};
+ghost use Rattle.toml_layout.specs.OpenOutlines.{leaf_text};
 ghost use Rattle.toml_working.specs.Looking.{BeginsBehind, LaysOut};
+ghost use Rattle.toml_working.specs.LookingUp.{BeginsSection, CountsLines, FindsAlike, GoesUpLine, GoesUpSlot, TellsBeginning};
 ghost use Rattle.toml_working.specs.Starting.{read_of};
 
 use crate::lines::{Body, Kept, Line, Slot};
@@ -199,14 +201,15 @@ impl<'x> Tree<'x> {
         let Some(line) = self.seen(before, behind) else {
             return Ok((Leaf::EMPTY, None));
         };
-        if line.is_header() {
-            return self.beginning_below(before, behind, self.ws_at(behind));
-        }
-        if line.base.is_none() {
+        if line.is_bare() {
             return Ok((Leaf::EMPTY, None));
         }
         let look = self.look_at(before, behind)?;
-        Ok((look.ws, look.equals))
+        if line.is_header() {
+            self.beginning_below(before, behind, look.ws)
+        } else {
+            Ok((look.ws, look.equals))
+        }
     }
 
     /// How the first line with a key and a value begins in a section whose header line stands at a place, or is to, and begins
@@ -216,8 +219,11 @@ impl<'x> Tree<'x> {
         before: Before<'_, 'x>,
         header: Position,
         ws: Leaf<'x>,
-    ) -> Result<(Leaf<'x>, Option<Equals<'x>>), AllocError> {
-        match self.like_pair(before, header, ws) {
+    ) -> Result<(Leaf<'x>, Option<Equals<'x>>), AllocError>
+        ensures { let own = leaf_text ws.entry in
+            IfOk result (λ r. BeginsSection own (read_of before.entry) self.now.slots.items header r.0 r.1) }
+    {
+        match self.like_pair(before, header, ws)? {
             Some(pair) => {
                 let look = self.look_at(before, pair)?;
                 Ok((look.ws, look.equals))
@@ -228,25 +234,96 @@ impl<'x> Tree<'x> {
 
     /// The last line with a key and a value before a place in a section whose header begins with this whitespace. The section of
     /// the root has no header, and begins with none.
-    fn like_pair(&self, before: Before<'_, 'x>, place: Position, ws: Leaf<'x>) -> Option<Position> {
-        let mut pair = None;
-        let mut at = place;
-        for _ in 0..usize::MAX {
-            let Some(line) = self.above(at) else {
-                return if ws.is_empty() { pair } else { None };
-            };
-            match self.sort(before, line) {
-                Some(Sort::Pair) if pair.is_none() => pair = Some(line),
-                Some(Sort::Header) => {
-                    if pair.is_some() && self.ws_at(line).text() == ws.text() {
-                        return pair;
-                    }
-                    pair = None;
-                }
-                _ => {}
-            }
-            at = line;
+    fn like_pair(
+        &self,
+        before: Before<'_, 'x>,
+        place: Position,
+        ws: Leaf<'x>,
+    ) -> Result<Option<Position>, AllocError>
+        ensures { IfOk result (FindsAlike (leaf_text ws.entry) (read_of before.entry) self.now.slots.items place) }
+    {
+        let (mut last, found) = self.like_in(before, place, ws, None)?;
+        if found {
+            return Ok(last);
         }
-        None
+        for slot in (0..place.slot).rev() {
+            let index = self.lines_in(slot);
+            let (next, found) = self.like_in(before, Position { slot, index }, ws, last)?;
+            if found {
+                return Ok(next);
+            }
+            last = next;
+        }
+        Ok(if ws.is_empty() { last } else { None })
+    }
+
+    /// How many lines a slot has.
+    fn lines_in(&self, slot: usize) -> usize
+        ensures { CountsLines self.now.slots.items slot result }
+    {
+        match self.slots.get(slot) {
+            Some(lines) => lines.count(),
+            None => 0,
+        }
+    }
+
+    /// That line among those of a slot before a place, and `true`, if it is one of them; else the last line with a key and a value of the
+    /// first section from there on. `last` is the one that is so from the place on.
+    fn like_in(
+        &self,
+        before: Before<'_, 'x>,
+        place: Position,
+        ws: Leaf<'x>,
+        last: Option<Position>,
+    ) -> Result<(Option<Position>, bool), AllocError>
+        ensures { let read = read_of before.entry in
+            IfOk result (λ r. GoesUpSlot (leaf_text ws.entry) read self.now.slots.items place last r.1 r.0) }
+    {
+        let slot = place.slot;
+        let mut first = last;
+        for index in (0..place.index).rev() {
+            let (next, found) = self.like_line(before, Position { slot, index }, ws, first)?;
+            if found {
+                return Ok((next, true));
+            }
+            first = next;
+        }
+        Ok((first, false))
+    }
+
+    /// The same past one line.
+    fn like_line(
+        &self,
+        before: Before<'_, 'x>,
+        at: Position,
+        ws: Leaf<'x>,
+        last: Option<Position>,
+    ) -> Result<(Option<Position>, bool), AllocError>
+        ensures { let read = read_of before.entry in
+            IfOk result (λ r. GoesUpLine (leaf_text ws.entry) read self.now.slots.items at last r.1 r.0) }
+    {
+        let Some(line) = self.seen(before, at) else {
+            return Ok((last, false));
+        };
+        if !line.is_header() {
+            return Ok((line.first_pair(at, last), false));
+        }
+        if last.is_some() && self.begins_with(before, at, ws)? {
+            Ok((last, true))
+        } else {
+            Ok((None, false))
+        }
+    }
+
+    /// Whether the line at a place begins with this whitespace.
+    fn begins_with(
+        &self,
+        before: Before<'_, 'x>,
+        at: Position,
+        ws: Leaf<'x>,
+    ) -> Result<bool, AllocError>
+        ensures { IfOk result (TellsBeginning (leaf_text ws.entry) (read_of before.entry) self.now.slots.items at) }
+    {
+        Ok(self.look_at(before, at)?.ws.text() == ws.text())
     }
 }

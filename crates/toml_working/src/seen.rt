@@ -2,6 +2,7 @@
 ghost use Rattle.std.specs.Prelude.{◌≡◌};
 ghost use Rattle.toml_names.specs.model.Addresses.{lent};
 ghost use Rattle.toml_working.specs.InsertStanding.{is_bare};
+ghost use Rattle.toml_working.specs.LookingUp.{first_pair_at};
 ghost use Rattle.toml_working.specs.Placing.{is_header, pair_at};
 ghost use Rattle.toml_working.specs.RenameStanding.{part_number};
 ghost use Rattle.toml_working.specs.Seeing.{heads, heads_below, is_dotted, is_sought, seen, steps_to};
@@ -44,6 +45,16 @@ impl Seen<'_> {
         match self.base {
             Some(_) => Some(place),
             None => last,
+        }
+    }
+
+    /// The place of the line with a key and a value behind it, or its own, if there is none and it has them.
+    pub(crate) fn first_pair(self, place: Position, behind: Option<Position>) -> Option<Position>
+        ensures { result ≡ first_pair_at self.entry.base place behind }
+    {
+        match behind {
+            Some(_) => behind,
+            None => self.pair_at(place, None),
         }
     }
 

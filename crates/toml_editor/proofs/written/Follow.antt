@@ -19,7 +19,6 @@ use Rattle.toml_editor.specs.Exact.{Follows, IsAt, KeepsSource}
 use Rattle.toml_layout.specs.OpenOutlines.{leaf_text}
 use Rattle.toml_working.specs.Manners.{Manner}
 use Rattle.toml_working.specs.Putting.{manner}
-use Rattle.toml_working.specs.RemoveStanding.{is_undotted_pair}
 use Rattle.toml_working.specs.Removing.{remove_lines}
 use Rattle.toml_working.specs.RemovingIn.{RemovesLines}
 use Rattle.toml_working.specs.Setting.{set_lines}
@@ -28,9 +27,9 @@ use Rattle.toml_working.specs.Stands.{KeepsRest, SetsLines, Stands}
 use Rattle.toml_working.specs.Starting.{NoneIsGone}
 use Rattle.toml_editor.specs.Steps.{IsGoodText, IsPlain}
 use Rattle.toml_layout.specs.TreeOutlines.{value_outline}
-use Rattle.toml_working.specs.Written.{AreEdited, HasPair, HasValue, IsWritten}
+use Rattle.toml_working.specs.Written.{AreEdited, HasValue, IsWritten}
 use Rattle.toml_editor.proofs.SourceKept.{source_kept}
-use Rattle.toml_editor.proofs.written.RemoveStanding.{pair_stands, remove_stands}
+use Rattle.toml_editor.proofs.written.RemoveStanding.{remove_stands}
 use Rattle.toml_editor.proofs.written.Steps.{plain_step, step_lines}
 use Rattle.toml_editor.proofs.written.SetStanding.{set_stands}
 use Rattle.toml_editor.proofs.written.StandingBare.{places_do_not_stand}
@@ -90,17 +89,15 @@ set_is_there profile read old new p text kinds at apart v done sets is =
     let made = sets apart (standing lines) at.stands (rules_order lines at.good.good.0) in
     standing_is_value p lines (sym made.1 ∙ is)
 
--- a `remove` of a name that has a line at the root is made, and so is the text
+-- a `remove` of a line whose key is not dotted is made, and so is the text
 pub remove_follows : (profile : Profile) (read : Read) (old new : Tree) (p : Address) (text : List ℕ) (kinds now : Kinds) (at : IsAt profile read old text kinds)
     → IsFault profile (remove p) kinds None → IsAfter profile (remove p) kinds now → IsPlain at.good.tree.lines (remove p)
     → RemovesLines p read old new → Follows profile read (remove p) old new text now
-remove_follows profile read old new p text kinds now at none is_after (name, is, there) removes =
+remove_follows profile read old new p text kinds now at none is_after there removes =
     let lines = at.good.tree.lines in
-    let rules = at.good.good.0 in
-    let pair = subst (λ q. HasPair lines q → list_any (is_undotted_pair q) (standing lines) ≡ true) (sym is) (λ has_pair. pair_stands name lines has_pair rules) there in
-    let (rest, made) = removes (standing lines) at.stands (rules_order lines rules) pair in
+    let (rest, made) = removes (standing lines) at.stands (rules_order lines at.good.good.0) there in
     let edited = remove_lines p lines in
     let stands : Stands (text_of new.texts.source) read new.slots.items (standing edited) =
     subst₂ (λ (s : Texts) ls. Stands (text_of s.source) read new.slots.items ls) (sym rest.texts) (sym (remove_stands p lines)) made in
-    follows profile read (remove p) old new text kinds now edited at.newline at.good none is_after (name, is, there, refl) stands
+    follows profile read (remove p) old new text kinds now edited at.newline at.good none is_after (there, refl) stands
     (subst NoneIsGone (sym rest.elements) at.whole) (source_kept old new rest.texts rest.style)

@@ -12,7 +12,7 @@ use Rattle.toml_names.specs.mentions.Clear.{IsClear}
 use Rattle.toml_names.proofs.Proved.{inside_is_below, not_named_is_clear, more_keep_rules, value_keeps_rules}
 use Rattle.toml_names.specs.mentions.Rules.{KeepsRules}
 use Rattle.toml_working.specs.Inserting.{insert_lines}
-use Rattle.toml_editor.specs.Blocks.{root_pair, named_plain}
+use Rattle.toml_editor.specs.Blocks.{pair_at, named_plain}
 use Rattle.toml_editor.specs.InsertLaws.{InsertRules, InsertShort, InsertData}
 use Rattle.toml_editor.proofs.written.BlockFacts.{each_put, has_old, has_block, has_new}
 use Rattle.toml_editor.proofs.written.Clear.{IsUnder}
@@ -27,7 +27,7 @@ block_under p new line = (([], sym (append-nil p)), each_weaker (λ m. IsAbove p
 
 -- at other addresses than the value and what is in it
 abbrev IsBeside : List ℕ → Value → Named → Type 0
-IsBeside name v m = EachIs (λ b. ¬ (m.address ≡ b.address)) (root_pair name v)
+IsBeside name v m = EachIs (λ b. ¬ (m.address ≡ b.address)) (pair_at (Name name ∷ []) v)
 
 pub insert_rules : InsertRules
 insert_rules name v manner lines free keeps good =
@@ -36,16 +36,16 @@ insert_rules name v manner lines free keeps good =
     let put = insert_names name v manner lines in
     let clear = each_plain lines (λ m. IsClear p m.address) (not_named_is_clear lines p keeps free) in
     let beside : (m : Named) → IsClear p m.address → IsBeside name v m =
-    λ m c. each_weaker (λ b. IsUnder p b.address) (λ b. ¬ (m.address ≡ b.address)) (λ b under same. clear_under p m.address c (subst (IsUnder p) (sym same) under)) (root_pair name v) (block_under p v 0) in
+    λ m c. each_weaker (λ b. IsUnder p b.address) (λ b. ¬ (m.address ≡ b.address)) (λ b under same. clear_under p m.address c (subst (IsUnder p) (sym same) under)) (pair_at (Name name ∷ []) v) (block_under p v 0) in
     (rules_plain lines').1
     (subst KeepsRules (sym put.after)
-    (more_keep_rules put.front (root_pair name v) put.back (subst KeepsRules put.before ((rules_plain lines).0 keeps)) (value_keeps_rules 0 Valued p v good)
+    (more_keep_rules put.front (pair_at (Name name ∷ []) v) put.back (subst KeepsRules put.before ((rules_plain lines).0 keeps)) (value_keeps_rules 0 Valued p v good)
     (subst (EachIs (IsBeside name v)) put.before (each_weaker (λ m. IsClear p m.address) (IsBeside name v) beside (named_plain lines) clear))))
 
 pub insert_short : InsertShort
 insert_short name v manner lines short low =
     plain_short (insert_lines name v manner lines)
-    (each_put (named_plain lines) (root_pair name v) (named_plain (insert_lines name v manner lines)) (insert_names name v manner lines) _
+    (each_put (named_plain lines) (pair_at (Name name ∷ []) v) (named_plain (insert_lines name v manner lines)) (insert_names name v manner lines) _
     (short_plain lines short) (block_short (Name name ∷ []) v 0 Valued (each_of_all _ (value_facts v) low)))
 
 pub insert_data : InsertData
@@ -61,10 +61,10 @@ insert_data profile name text new manner lines v old after value good is is' =
       record {
         carried = λ a b k have to.
             let e : b ≡ a = cc in
-            shown a k (has_old (named_plain lines) (root_pair name new) (named_plain lines') put (F p new a k) (has_plain lines (F p new a k) (has_of_any _ (named lines) ((is a k).0 (ap old (sym e) ∙ have)))));
-        placed = λ r k have. shown (p ++ r) k (has_block (named_plain lines) (root_pair name new) (named_plain lines') put (F p new (p ++ r) k) (in_block p new 0 Valued r k (has_of_any _ (value_facts new) ((facts r k).0 have))));
+            shown a k (has_old (named_plain lines) (pair_at (Name name ∷ []) new) (named_plain lines') put (F p new a k) (has_plain lines (F p new a k) (has_of_any _ (named lines) ((is a k).0 (ap old (sym e) ∙ have)))));
+        placed = λ r k have. shown (p ++ r) k (has_block (named_plain lines) (pair_at (Name name ∷ []) new) (named_plain lines') put (F p new (p ++ r) k) (in_block p new 0 Valued r k (has_of_any _ (value_facts new) ((facts r k).0 have))));
         no_other = λ a k have.
-            elim (has_new (named_plain lines) (root_pair name new) (named_plain lines') put (F p new a k) (has_plain lines' (F p new a k) (has_of_any _ (named lines') ((is' a k).0 have)))) [
+            elim (has_new (named_plain lines) (pair_at (Name name ∷ []) new) (named_plain lines') put (F p new a k) (has_plain lines' (F p new a k) (has_of_any _ (named lines') ((is' a k).0 have)))) [
               | inl w ↦ inl (a, (is a k).1 (any_of_has _ (named lines) (plain_has lines (F p new a k) w)), refl)
               | inr w ↦ let b = of_block p new 0 Valued a k w in inr (b.0, b.1, (facts b.0 k).1 (any_of_has _ (value_facts new) b.2))
             ];

@@ -1,28 +1,34 @@
--- What is kept by a `remove` at the root: the forms, the rules, the data.
-use Rattle.std.proofs.Common.{◌≡◌, ℕ, ◌+◌, ◌==◌, ◌⊎◌, Bool, true, false, cond, inl, inr, List, [], ◌∷◌, ◌++◌, length, refl, sym, ap, ◌∙◌, subst, true≢false}
+-- What is kept by the `remove` of a line: the forms, the rules, the data.
+use Rattle.std.proofs.Common.{◌≡◌, ℕ, ◌+◌, ◌==◌, ◌⊎◌, Bool, true, false, cond, inl, inr, List, [], ◌∷◌, ◌++◌, length, Some, option_map, refl, sym, ap, ◌∙◌, subst, true≢false}
 use Rattle.toml_tree.specs.Spells.{EachIs, AreLines}
 use Rattle.toml_tree.specs.Tree.{Value, Expr, BlankLine, KeyValLine, TableLine, ArrayTableLine, Line}
 use Rattle.toml_names.specs.declared.model.address.Step.TheVariants.{Name}
 use Rattle.toml_names.specs.declared.mentions.mention.Role.TheVariants.{Valued}
-use Rattle.toml_names.specs.model.Addresses.{Address, same_address, below}
+use Rattle.toml_names.specs.model.Addresses.{Address, child, same_address, same_step, below}
 use Rattle.toml_names.specs.mentions.Keys.{key_names}
-use Rattle.toml_names.specs.mentions.Mentions.{Named, named, named_by, root, section, value_named}
+use Rattle.toml_names.specs.mentions.Mentions.{Named, inside, named, named_by, root, section, value_named}
 use Rattle.toml_names.specs.mentions.Rules.{KeepsRules}
+use Rattle.toml_names.specs.model.Data.{IsDataOf, Kinds}
 use Rattle.toml_names.specs.model.Places.{IsNamed}
 use Rattle.toml_names.specs.mentions.Clear.{IsClear}
 use Rattle.toml_names.proofs.Proved.{line_values_stand_alone, not_named_is_clear, some_keep_rules}
-use Rattle.toml_editor.specs.Blocks.{IsPut, root_pair, named_plain}
+use Rattle.toml_tree.specs.declared.profile.Profile.{Profile}
+use Rattle.toml_edits.specs.After.{IsAfter}
+use Rattle.toml_edits.specs.Carry.{Carrier, carry, carry_below, nowhere, removing}
+use Rattle.toml_edits.specs.Edits.{remove}
+use Rattle.toml_edits.proofs.Proved.{parted_at_last}
+use Rattle.toml_editor.specs.Blocks.{IsPut, pair_at, named_plain}
 use Rattle.toml_editor.specs.RemoveLaws.{RemoveForms, RemoveGood, RemoveData}
 use Rattle.toml_working.specs.Lines.{lines_from}
 use Rattle.toml_working.specs.Removing.{remove_line, remove_lines, left_behind, empty_line}
-use Rattle.toml_working.specs.Written.{HasPair}
+use Rattle.toml_working.specs.Written.{HasLine}
 use Rattle.toml_editor.proofs.written.BlockFacts.{each_old, has_old, has_new}
 use Rattle.toml_editor.proofs.written.Clear.{IsUnder}
 use Rattle.toml_editor.proofs.Each.{each_append, each_back, each_weaker}
 use Rattle.toml_editor.proofs.written.Formed.{newline_some, line_before}
 use Rattle.toml_editor.proofs.written.InsertKept.{block_under}
 use Rattle.toml_editor.proofs.written.Pairwise.{PairsAre, pairs_back, pairs_between, Alone, pairs_of_all, Has, has_of_any, any_of_has, from_has}
-use Rattle.toml_editor.proofs.written.RemoveNamed.{remove_names}
+use Rattle.toml_editor.proofs.written.RemoveNamed.{line_parts, remove_names}
 use Rattle.toml_editor.proofs.written.SetKept.{F, clear_under, carried_clear, clear_carried}
 use Rattle.toml_editor.proofs.written.Unplain.{pairs_plain, rules_plain, short_plain, plain_short, each_plain, has_plain, plain_has}
 
@@ -66,67 +72,88 @@ remove_forms p lines is = lines_formed p lines (root ∷ []) 0 is
 
 -- ---- rules
 
-remove_rules : (name : List ℕ) (lines : List Line) → HasPair lines (Name name ∷ []) → KeepsRules (named lines) → KeepsRules (named (remove_lines (Name name ∷ []) lines))
-remove_rules name lines there keeps =
-    let found = remove_names name lines there keeps in
+remove_rules : (p : Address) (lines : List Line) → HasLine lines p → KeepsRules (named lines) → KeepsRules (named (remove_lines p lines))
+remove_rules p lines there keeps =
+    let found = remove_names p lines there keeps in
     let put = found.1 in
-    (rules_plain (remove_lines (Name name ∷ []) lines)).1
-    (subst KeepsRules (sym put.before) (some_keep_rules put.front (root_pair name found.0) put.back (subst KeepsRules put.after ((rules_plain lines).0 keeps))))
+    (rules_plain (remove_lines p lines)).1
+    (subst KeepsRules (sym put.before) (some_keep_rules put.front (pair_at p found.0) put.back (subst KeepsRules put.after ((rules_plain lines).0 keeps))))
 
 pub remove_good : RemoveGood
-remove_good name lines there good =
-    let found = remove_names name lines there good.0 in
-    let lines' = remove_lines (Name name ∷ []) lines in (
-      remove_rules name lines there good.0,
-      plain_short lines' (each_old (named_plain lines') (root_pair name found.0) (named_plain lines) found.1 _ (short_plain lines good.1)),
+remove_good p lines there good =
+    let found = remove_names p lines there good.0 in
+    let lines' = remove_lines p lines in (
+      remove_rules p lines there good.0,
+      plain_short lines' (each_old (named_plain lines') (pair_at p found.0) (named_plain lines) found.1 _ (short_plain lines good.1)),
     )
 
 -- ---- data
 
-abbrev Apart : List ℕ → Named → Type 0
-Apart name m = ¬ (m.address ≡ Name name ∷ [])
+abbrev Apart : Address → Named → Type 0
+Apart p m = ¬ (m.address ≡ p)
 
 -- beside the pair nothing is at its address
-apart_rest : (name : List ℕ) (v : Value) (old new : List Named) → IsPut old (root_pair name v) new → PairsAre Alone new → EachIs (Apart name) old
-apart_rest name v old new put alone =
+apart_rest : (p : Address) (v : Value) (old new : List Named) → IsPut old (pair_at p v) new → PairsAre Alone new → EachIs (Apart p) old
+apart_rest p v old new put alone =
     let parts = subst (PairsAre Alone) put.after alone in
-    let behind = (pairs_back Alone put.front (root_pair name v ++ put.back) parts).0 in
-    subst (EachIs (Apart name)) (sym put.before)
-    (each_append (Apart name) put.front put.back
-    (each_weaker (λ x. EachIs (Alone x) (root_pair name v ++ put.back)) (Apart name) (λ x h here. true≢false ((h.0 here).1)) put.front (pairs_between Alone put.front (root_pair name v ++ put.back) parts))
-    (each_weaker (Alone (value_named 0 Valued (Name name ∷ []) v)) (Apart name) (λ x h here. true≢false ((h (sym here)).0)) put.back (each_back (Alone (value_named 0 Valued (Name name ∷ []) v)) (Rattle.toml_names.specs.mentions.Mentions.inside 0 (Name name ∷ []) v) put.back behind)))
+    let behind = (pairs_back Alone put.front (pair_at p v ++ put.back) parts).0 in
+    subst (EachIs (Apart p)) (sym put.before)
+    (each_append (Apart p) put.front put.back
+    (each_weaker (λ x. EachIs (Alone x) (pair_at p v ++ put.back)) (Apart p) (λ x h here. true≢false ((h.0 here).1)) put.front (pairs_between Alone put.front (pair_at p v ++ put.back) parts))
+    (each_weaker (Alone (value_named 0 Valued p v)) (Apart p) (λ x h here. true≢false ((h (sym here)).0)) put.back (each_back (Alone (value_named 0 Valued p v)) (inside 0 p v) put.back behind)))
 
 -- so nothing that is left is named at it or below it
-pub left_clear : (name : List ℕ) (lines : List Line) → HasPair lines (Name name ∷ []) → KeepsRules (named lines) → EachIs (λ m. IsClear (Name name ∷ []) m.address) (named (remove_lines (Name name ∷ []) lines))
-left_clear name lines there keeps =
-    let p = Name name ∷ [] in
+pub left_clear : (p : Address) (lines : List Line) → HasLine lines p → KeepsRules (named lines) → EachIs (λ m. IsClear p m.address) (named (remove_lines p lines))
+left_clear p lines there keeps =
     let lines' = remove_lines p lines in
-    let found = remove_names name lines there keeps in
+    let found = remove_names p lines there keeps in
     let alone : PairsAre Alone (named_plain lines) = pairs_plain lines Alone (λ x y h. h) (pairs_of_all Alone (named lines) (line_values_stand_alone lines keeps)) in
-    let apart = apart_rest name found.0 (named_plain lines') (named_plain lines) found.1 alone in
-    let free : ¬ IsNamed (named lines') p = λ named_there. from_has (Apart name) (λ m. m.address ≡ p) ⊥ (λ m a here. a here) (named_plain lines') apart (has_plain lines' (λ m. m.address ≡ p) (has_of_any _ (named lines') named_there)) in
-    not_named_is_clear lines' p (remove_rules name lines there keeps) free
+    let apart = apart_rest p found.0 (named_plain lines') (named_plain lines) found.1 alone in
+    let free : ¬ IsNamed (named lines') p = λ named_there. from_has (Apart p) (λ m. m.address ≡ p) ⊥ (λ m a here. a here) (named_plain lines') apart (has_plain lines' (λ m. m.address ≡ p) (has_of_any _ (named lines') named_there)) in
+    not_named_is_clear lines' p (remove_rules p lines there keeps) free
 
-pub remove_data : RemoveData
-remove_data profile name lines old after there keeps is is' =
-    let p = Name name ∷ [] in
+-- what is below a step of a step
+carried_below : (q r a : Address) (c : Carrier) → carry_below q (carry_below r c) a ≡ carry_below (q ++ r) c a
+carried_below [] r a c = refl
+carried_below (s ∷ q) r [] c = refl
+carried_below (s ∷ q) r (t ∷ a) c = ap (λ o. cond (same_step s t) (option_map (λ x. t ∷ x) o) (Some (t ∷ a))) (carried_below q r a c)
+
+-- where the `remove` of a name carries an address
+pub removed_below : (table : Address) (name : List ℕ) (a : Address) → carry (remove (child table name)) a ≡ carry_below (child table name) nowhere a
+removed_below table name a = ap (λ o. removing o a) (parted_at_last table (Name name)) ∙ carried_below table (Name name ∷ []) a nowhere
+
+data_removed : (profile : Profile) (table : Address) (name : List ℕ) (lines : List Line) (old after : Kinds) → HasLine lines (child table name)
+    → KeepsRules (named lines) → IsDataOf (named lines) old → IsDataOf (named (remove_lines (child table name) lines)) after
+    → IsAfter profile (remove (child table name)) old after
+data_removed profile table name lines old after there keeps is is' =
+    let p = child table name in
     let lines' = remove_lines p lines in
-    let found = remove_names name lines there keeps in
+    let found = remove_names p lines there keeps in
     let v = found.0 in
     let put = found.1 in
-    let clear = each_plain lines' (λ m. IsClear p m.address) (left_clear name lines there keeps) in
+    let clear = each_plain lines' (λ m. IsClear p m.address) (left_clear p lines there keeps) in
     record {
       carried = λ a b k have to.
-          let go = carried_clear p b a to in
+          let go = carried_clear p b a (sym (removed_below table name b) ∙ to) in
           let fact : Has (F p v b k) (named_plain lines) = has_plain lines (F p v b k) (has_of_any _ (named lines) ((is b k).0 have)) in
-          let left : Has (F p v b k) (named_plain lines') = elim (has_new (named_plain lines') (root_pair name v) (named_plain lines) put (F p v b k) fact) [
+          let left : Has (F p v b k) (named_plain lines') = elim (has_new (named_plain lines') (pair_at p v) (named_plain lines) put (F p v b k) fact) [
             | inl w ↦ w
-            | inr w ↦ absurd (from_has (λ m. IsUnder p m.address) (F p v b k) ⊥ (λ m under f. clear_under p b go.1 (subst (IsUnder p) f.0 under)) (root_pair name v) (block_under p v 0) w)
+            | inr w ↦ absurd (from_has (λ m. IsUnder p m.address) (F p v b k) ⊥ (λ m under f. clear_under p b go.1 (subst (IsUnder p) f.0 under)) (pair_at p v) (block_under p v 0) w)
           ] in
           ap after go.0 ∙ (is' b k).1 (any_of_has _ (named lines') (plain_has lines' (F p v b k) left));
       placed = λ r k have. cc;
       no_other = λ a k have.
           let fact : Has (F p v a k) (named_plain lines') = has_plain lines' (F p v a k) (has_of_any _ (named lines') ((is' a k).0 have)) in
           let cleared : IsClear p a = from_has (λ m. IsClear p m.address) (F p v a k) (IsClear p a) (λ m c f. subst (IsClear p) f.0 c) (named_plain lines') clear fact in
-          inl (a, (is a k).1 (any_of_has _ (named lines) (plain_has lines (F p v a k) (has_old (named_plain lines') (root_pair name v) (named_plain lines) put (F p v a k) fact))), clear_carried p a cleared);
+          inl (
+            a,
+            (is a k).1 (any_of_has _ (named lines) (plain_has lines (F p v a k) (has_old (named_plain lines') (pair_at p v) (named_plain lines) put (F p v a k) fact))),
+            removed_below table name a ∙ clear_carried p a cleared,
+          );
     }
+
+pub remove_data : RemoveData
+remove_data profile p lines old after there keeps is is' =
+    let (table, name, at) = line_parts p lines there in
+    subst (λ q. IsAfter profile (remove q) old after) (sym at)
+    (data_removed profile table name lines old after (subst (HasLine lines) at there) keeps is (subst (λ q. IsDataOf (named (remove_lines q lines)) after) at is'))

@@ -1,24 +1,18 @@
--- The lines after a `remove` of a name at the root, by what finds them.
-use Rattle.std.proofs.Common.{◌≡◌, ℕ, ◌+◌, ◌==◌, Bool, true, false, ◌&&◌, cond, List, [], ◌∷◌, ◌++◌, length, refl, sym, ap, ap₂, ◌∙◌, subst, append-nil}
-use Rattle.std.specs.List.{list_any}
+-- The lines after the `remove` of a line, by what finds them.
+use Rattle.std.proofs.Common.{◌≡◌, ℕ, ◌+◌, ◌==◌, Bool, true, false, cond, List, [], ◌∷◌, ◌++◌, length, refl, sym, ap, ap₂, subst, append-nil}
 use Rattle.toml_tree.specs.Tree.{Piece, Expr, BlankLine, KeyValLine, TableLine, ArrayTableLine, Line}
-use Rattle.toml_names.specs.declared.model.address.Step.TheVariants.{Name}
 use Rattle.toml_names.specs.mentions.Alike.{AreAlike}
-use Rattle.toml_names.specs.mentions.Keys.{key_names, part_name, rest_names}
-use Rattle.toml_names.specs.mentions.Mentions.{Named, named_by, named_from, root, section}
+use Rattle.toml_names.specs.mentions.Keys.{key_names}
+use Rattle.toml_names.specs.mentions.Mentions.{Named, named_by, root, section}
 use Rattle.toml_names.specs.model.Addresses.{Address, same_address, below}
 use Rattle.toml_names.proofs.Proved.{pairs_leave_alike}
 use Rattle.toml_working.specs.Lines.{lines_from}
-use Rattle.toml_editor.specs.RemoveLaws.{HasValueAt}
-use Rattle.toml_working.specs.RemoveStanding.{empty_standing, is_pair, is_undotted_pair, left_standing, remove_standing, without_one}
+use Rattle.toml_working.specs.RemoveStanding.{empty_standing, is_pair, left_standing, remove_standing, without_one}
 use Rattle.toml_working.specs.Removing.{empty_line, left_behind, remove_line}
 use Rattle.toml_working.specs.Standing.{line_stands, standing_from}
-use Rattle.toml_editor.specs.StandingLaws.{PairStands, RemoveStands}
+use Rattle.toml_editor.specs.StandingLaws.{RemoveStands}
 use Rattle.toml_layout.specs.TreeOutlines.{line_outline}
 use Rattle.toml_editor.proofs.written.Alike.{alike_self, alike_trans}
-use Rattle.toml_editor.proofs.written.Clear.{self}
-use Rattle.toml_editor.proofs.written.RemoveNamed.{one_step, remove_keeps_lines}
-use Rattle.toml_editor.proofs.written.StandingHas.{or_left, or_right}
 use Rattle.toml_editor.proofs.written.UnitsAlike.{base_alike, own_alike, step_alike}
 
 module _ (p : Address) where
@@ -69,28 +63,5 @@ module _ (p : Address) where
   all_removed [] xs n ys m alike = refl
   all_removed (l ∷ ls) xs n ys m alike = one_removed xs ys n m alike l.expr l.newline ls (all_removed ls (xs ++ named_by xs n l.expr) (n + 1))
 
--- a pair on a line, at the root
-pair_here : (name : List ℕ) (xs : List Named) (e : Expr) (newline : Piece) → HasValueAt (Name name ∷ []) xs e
-    → is_undotted_pair (Name name ∷ []) (line_stands xs (record { expr = e; newline = newline })) ≡ true
-pair_here name xs (BlankLine b) newline own = absurd own
-pair_here name xs (TableLine ws header tail) newline own = absurd own
-pair_here name xs (ArrayTableLine ws header tail) newline own = absurd own
-pair_here name xs (KeyValLine ws pair tail) newline own =
-    let key = pair.assign.key in
-    let (at_root, first, none) = one_step name (section xs) (part_name key.first) (rest_names key.rest) own in
-    ap₂ (λ a b. a && b) (ap (λ a. same_address a (Name name ∷ [])) own ∙ self (Name name ∷ [])) (ap (λ (s : Address). 1 == length s + 1) at_root)
-
-pair_there : (name : List ℕ) (front : List Line) (l : Line) (back : List Line) (xs : List Named) (n : ℕ) → HasValueAt (Name name ∷ []) (named_from xs n front) l.expr
-    → list_any (is_undotted_pair (Name name ∷ [])) (standing_from xs n (front ++ l ∷ back)) ≡ true
-pair_there name [] l back xs n own = or_left _ _ (pair_here name xs l.expr l.newline own)
-pair_there name (f ∷ front) l back xs n own =
-    or_right (is_undotted_pair (Name name ∷ []) (line_stands xs f)) _ (pair_there name front l back (xs ++ named_by xs n f.expr) (n + 1) own)
-
 pub remove_stands : RemoveStands
 remove_stands p lines = all_removed p lines (root ∷ []) 0 (root ∷ []) 0 (alike_self (root ∷ []))
-
-pub pair_stands : PairStands
-pair_stands name lines there keeps =
-    let (front, l, back, is, own, gone) = remove_keeps_lines name lines there keeps in
-    subst (λ ls. list_any (is_undotted_pair (Name name ∷ [])) (standing_from (root ∷ []) 0 ls) ≡ true) (sym is)
-    (pair_there name front l back (root ∷ []) 0 own)

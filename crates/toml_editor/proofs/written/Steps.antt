@@ -28,7 +28,7 @@ use Rattle.toml_working.specs.Removing.{remove_lines}
 use Rattle.toml_working.specs.Renaming.{rename_lines}
 use Rattle.toml_working.specs.Setting.{set_lines}
 use Rattle.toml_editor.specs.Steps.{IsGoodText, IsPlain, GoodTextsAreDocuments, PlainIsWritten, PlainStep, PlainSteps, AreWritten, OneWritten, OneListWritten}
-use Rattle.toml_working.specs.Written.{AreEdited, HasPair, IsWritten}
+use Rattle.toml_working.specs.Written.{AreEdited, IsWritten}
 use Rattle.toml_editor.proofs.written.Fitting.{all_fit, keeps_value, unnamed, last_step}
 use Rattle.toml_editor.proofs.written.InsertFormed.{insert_forms}
 use Rattle.toml_editor.proofs.written.InsertKept.{insert_rules, insert_short, insert_data}
@@ -50,7 +50,7 @@ edited_lines : (profile : Profile) (c : Change) (manner : Manner) (lines : List 
 edited_lines profile (set p text) manner lines old now after there = let v = after.1.value.tree in (set_lines p v lines, (v, after.1.value.is_value, there, refl))
 edited_lines profile (insert p text) manner lines old now after (name, at) = let v = after.1.value.tree in (insert_lines name v manner lines, (v, after.1.value.is_value, name, at, refl))
 edited_lines profile (rename p to) manner lines old now after plain = (rename_lines p to lines, refl)
-edited_lines profile (remove p) manner lines old now after (name, at, there) = (remove_lines p lines, (name, at, there, refl))
+edited_lines profile (remove p) manner lines old now after there = (remove_lines p lines, (there, refl))
 edited_lines profile (new_section p) manner lines old now after plain = absurd plain
 edited_lines profile (new_element p) manner lines old now after plain = absurd plain
 
@@ -100,13 +100,12 @@ module _ (profile : Profile) (manner : Manner) (newline : IsNewline manner.newli
             good = rename_good q n to lines free good;
             after = λ kinds is'. rename_data profile q n to lines old kinds free good.0 is is';
           })
-  edited (remove p) now new none after (name, at, there, made) =
-      let there' = subst (λ x. HasPair lines x) at there in
-      subst₂ (λ x l. AreNew profile (remove x) old l) (sym at) (sym (made ∙ ap (λ x. remove_lines x lines) at)) (record {
-        forms = remove_forms (Name name ∷ []) lines forms;
-        profiled = remove_of_profile profile (Name name ∷ []) lines profiled;
-        good = remove_good name lines there' good;
-        after = λ kinds is'. remove_data profile name lines old kinds there' good.0 is is';
+  edited (remove p) now new none after (there, made) =
+      subst (AreNew profile (remove p) old) (sym made) (record {
+        forms = remove_forms p lines forms;
+        profiled = remove_of_profile profile p lines profiled;
+        good = remove_good p lines there good;
+        after = λ kinds is'. remove_data profile p lines old kinds there good.0 is is';
       })
   edited (new_section p) now new none after made = absurd made
   edited (new_element p) now new none after made = absurd made
@@ -167,7 +166,7 @@ one_edited : (profile : Profile) (c : Change) (manner : Manner) (old one two : L
 one_edited profile (set p text) manner old one two (v, value, there, is) (w, value', there', is') = is ∙ ap (λ x. set_lines p x old) (one_value v w 0 text value.0 value'.0) ∙ sym is'
 one_edited profile (insert p text) manner old one two (v, value, m, at, is) (w, value', n, at', is') = is ∙ ap₂ (λ x k. insert_lines k x manner old) (one_value v w 0 text value.0 value'.0) (first_name m n p at at') ∙ sym is'
 one_edited profile (rename p to) manner old one two is is' = is ∙ sym is'
-one_edited profile (remove p) manner old one two (m, at, there, is) (n, at', there', is') = is ∙ sym is'
+one_edited profile (remove p) manner old one two (there, is) (there', is') = is ∙ sym is'
 one_edited profile (new_section p) manner old one two is is' = absurd is
 one_edited profile (new_element p) manner old one two is is' = absurd is
 

@@ -22,6 +22,7 @@ use Rattle.toml_names.proofs.Proved.{lines_have_data, places_are_not_named}
 use Rattle.toml_units.proofs.Proved.{units_are_named}
 use Rattle.toml_working.specs.Removing.{remove_lines}
 use Rattle.toml_editor.proofs.written.RemoveKept.{remove_forms, remove_good, left_clear}
+use Rattle.toml_editor.proofs.written.RemoveNamed.{line_parts}
 use Rattle.toml_editor.proofs.written.Pairwise.{has_of_any, from_has}
 use Rattle.toml_editor.proofs.written.Way.{Seen, seen}
 use Rattle.toml_editor.proofs.written.WayTaken.{remove_way}
@@ -37,7 +38,7 @@ use Rattle.toml_editor.proofs.written.InsertFormed.{insert_forms}
 use Rattle.toml_editor.proofs.written.RenameFormed.{rename_forms}
 use Rattle.toml_editor.proofs.written.WayComments.{comments}
 use Rattle.toml_working.specs.Setting.{set_lines}
-use Rattle.toml_working.specs.Written.{HasValue, HasPair, IsWritten}
+use Rattle.toml_working.specs.Written.{HasLine, HasValue, IsWritten}
 use Rattle.toml_editor.proofs.written.SetKept.{set_short}
 use Rattle.toml_editor.proofs.written.SetFormed.{set_forms}
 use Rattle.toml_editor.proofs.written.WaySet.{set_way}
@@ -167,23 +168,26 @@ address_clear p lines forms keeps clear =
         )
 
 remove_goes : (p : Address) → HaveWays (remove p)
-remove_goes p profile manner before after old now newline good none is_after (d, spells, edited, (name, at, there, made), text) =
+remove_goes p profile manner before after old now newline good none is_after (d, spells, edited, (there, made), text) =
     let same : d ≡ good.tree = one_tree d good.tree before spells.0 good.spelled.0 in
     let lines = good.tree.lines in
-    let there' : HasPair lines (Name name ∷ []) = subst₂ (λ (x : Doc) q. HasPair x.lines q) same at there in
-    let lines_are : edited ≡ remove_lines (Name name ∷ []) lines = made ∙ ap₂ (λ (x : Doc) q. remove_lines q x.lines) same at in
-    let text_is : after ≡ good.tree.mark.text ++ joined (lines_parts (remove_lines (Name name ∷ []) lines)) =
-    text ∙ ap (λ (x : Doc). x.mark.text ++ joined (lines_parts edited)) same ∙ ap (λ ls. good.tree.mark.text ++ joined (lines_parts ls)) lines_are in
-    let forms = remove_forms (Name name ∷ []) lines good.spelled.0.lines.forms in
-    let far = address_clear (Name name ∷ []) (remove_lines (Name name ∷ []) lines) forms (remove_good name lines there' good.good).0 (left_clear name lines there' good.good.0) in
-    subst (λ q. HasGone (remove q) good.tree after) (sym at) (record {
+    let has_line : HasLine lines p = subst (λ (x : Doc). HasLine x.lines p) same there in
+    let (table, name, at) = line_parts p lines has_line in
+    let lines_are : edited ≡ remove_lines p lines = made ∙ ap (λ (x : Doc). remove_lines p x.lines) same in
+    let forms = remove_forms p lines good.spelled.0.lines.forms in
+    let far = address_clear p (remove_lines p lines) forms (remove_good p lines has_line good.good).0 (left_clear p lines has_line good.good.0) in
+    record {
       comments_in = [];
       comments_are = refl;
-      edited = remove_lines (Name name ∷ []) lines;
+      edited = remove_lines p lines;
       forms = forms;
-      text = text_is;
-      way = remove_way name lines good.spelled.0.lines.forms there' good.good.0 far;
-    })
+      text =
+          text ∙ ap (λ (x : Doc). x.mark.text ++ joined (lines_parts edited)) same
+          ∙ ap (λ ls. good.tree.mark.text ++ joined (lines_parts ls)) lines_are;
+      way = subst (λ q. HasLine lines q → EachIs (λ (u : TextUnit). (a : Address) → u.address ≡ Some a → IsClear q a) (units (remove_lines q lines))
+          → HasWay (remove q ∷ []) ([] ∷ []) lines (remove_lines q lines)) (sym at)
+          (λ here clear. remove_way table name lines good.spelled.0.lines.forms here good.good.0 clear) has_line far;
+    }
 
 pub plain_goes : (c : Change) → HaveWays c
 plain_goes (set p value) = set_goes p value

@@ -17,7 +17,7 @@ use Rattle.toml_working.specs.Inserting.{new_assign, new_expr, line_behind, inse
 use Rattle.toml_layout.specs.declared.layout.Layout.TheVariants as layouts
 use Rattle.toml_working.specs.Manners.{Manner}
 use Rattle.toml_layout.specs.Spacings.{Spacing, laid_out, plain_spacing}
-use Rattle.toml_editor.specs.UnitBlocks.{BeginWithLine, IsBlockPut, root_line, pair_text, InsertUnits}
+use Rattle.toml_editor.specs.UnitBlocks.{BeginWithLine, IsBlockPut, pair_line, pair_text, InsertUnits}
 use Rattle.toml_editor.proofs.written.Alike.{alike_self, alike_pair}
 use Rattle.toml_editor.proofs.written.InsertFormed.{line_formed}
 use Rattle.toml_editor.proofs.written.InsertPlace.{IsFull, IsNoHeader, insert_place}
@@ -89,7 +89,7 @@ put_behind Formed us old block new before after newline one some h =
 
 module _ (name : List ℕ) (v : Value) where
   abbrev pub block : Spacing → List TextUnit
-  block s = root_line (fresh (pair_text s name v)) name v None
+  block s = pair_line (fresh (pair_text s name v)) (Name name ∷ []) 0 v None
 
   new_text : joined (value_parts v ++ piece (fresh []) ∷ []) ≡ joined (value_parts v)
   new_text = parts_join (value_parts v) (piece (fresh []) ∷ []) ∙ append-nil (joined (value_parts v))

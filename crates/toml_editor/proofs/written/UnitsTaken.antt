@@ -1,25 +1,26 @@
--- The units after a `remove` at the root.
-use Rattle.std.proofs.Common.{◌≡◌, ℕ, ◌+◌, ◌<◌, ◌==◌, true, false, cond, Option, List, [], ◌∷◌, ◌++◌, length, refl, sym, ap, ap₂, ◌∙◌, subst, append_assoc, zero, suc, arith}
+-- The units after the `remove` of a line.
+use Rattle.std.proofs.Common.{◌≡◌, ℕ, ◌+◌, ◌<◌, ◌==◌, true, false, cond, Option, List, [], ◌∷◌, ◌++◌, length, length-append, refl, sym, ap, ap₂, ◌∙◌, subst, append_assoc, zero, suc, arith}
 use Rattle.toml_tree.specs.Spells.{AreLines}
 use Rattle.toml_tree.specs.Tree.{Piece, Value, Line}
 use Rattle.toml_names.specs.declared.model.address.Step.TheVariants.{Name}
+use Rattle.toml_names.specs.model.Addresses.{Address, child}
 use Rattle.toml_names.specs.mentions.Alike.{AreAlike}
 use Rattle.toml_names.specs.mentions.Mentions.{Named, named, named_by}
 use Rattle.toml_units.specs.Units.{TextUnit, line_units, units_from, units}
-use Rattle.toml_editor.specs.Blocks.{root_pair}
+use Rattle.toml_editor.specs.Blocks.{pair_at}
 use Rattle.toml_working.specs.Lines.{lines_from}
 use Rattle.toml_working.specs.Removing.{remove_line, left_behind, empty_line, remove_lines}
-use Rattle.toml_editor.specs.UnitBlocks.{IsBlockTaken, root_line, left_of, RemoveUnits}
+use Rattle.toml_editor.specs.UnitBlocks.{IsBlockTaken, pair_line, left_of, RemoveUnits}
 use Rattle.std.specs.Prelude.{slice_get}
 use Rattle.toml_names.specs.mentions.Rules.{KeepsRules}
-use Rattle.toml_working.specs.Written.{HasPair}
+use Rattle.toml_working.specs.Written.{HasLine}
 use Rattle.toml_editor.proofs.written.WayZip.{lines_in}
 use Rattle.toml_editor.proofs.written.WayFits.{newlines}
 use Rattle.toml_editor.proofs.written.WayBlock.{lines_append}
 use Rattle.toml_editor.proofs.written.Alike.{alike_sym, alike_trans}
 use Rattle.toml_editor.proofs.written.Formed.{newline_some}
 use Rattle.toml_editor.proofs.written.Plain.{next_alike}
-use Rattle.toml_editor.proofs.written.RemoveNamed.{Claim, BehindOne, AtOne, by_document}
+use Rattle.toml_editor.proofs.written.RemoveNamed.{Claim, BehindOne, AtOne, by_document, line_parts}
 use Rattle.toml_editor.proofs.written.UnitsAlike.{units_alike}
 use Rattle.toml_editor.proofs.written.UnitsPut.{lines_first, line_lines}
 
@@ -38,16 +39,19 @@ later : (l : Line) (ls : List Line) → AreEnded (l ∷ ls) → AreEnded ls
 later l [] is = tt
 later l (m ∷ ls) is = is.1
 
-module _ (name : List ℕ) where
-  abbrev gone : List Named → Line → List Line
-  gone = remove_line (Name name ∷ [])
+module _ (table : Address) (name : List ℕ) where
+  abbrev p : Address
+  p = child table name
 
-  -- the units of the name's line are taken out, and the newlines of the other lines stay
+  abbrev gone : List Named → Line → List Line
+  gone = remove_line p
+
+  -- the units of the line are taken out, and the newlines of the other lines stay
   pub record AreTaken (old new : List TextUnit) (before after : List (List ℕ)) : Type 0 where
     pub piece : Piece
     pub value : Value
     pub comment : Option Piece
-    pub taken : IsBlockTaken old (root_line piece name value comment) new
+    pub taken : IsBlockTaken old (pair_line piece p (length table) value comment) new
     pub front_ends : (a : ℕ) → a < lines_in taken.front → slice_get before a ≡ slice_get after a
     pub back_ends : (a : ℕ) → a < lines_in taken.back → slice_get before (lines_in taken.front + suc a) ≡ slice_get after (lines_in taken.front + a)
 
@@ -62,7 +66,7 @@ module _ (name : List ℕ) where
         taken = record {
           front = us ++ taken.front;
           back = taken.back;
-          before = ap (λ l. us ++ l) taken.before ∙ sym (append_assoc us taken.front (root_line h.piece name h.value h.comment ++ taken.back));
+          before = ap (λ l. us ++ l) taken.before ∙ sym (append_assoc us taken.front (pair_line h.piece p (length table) h.value h.comment ++ taken.back));
           after = ap (λ l. us ++ l) taken.after ∙ sym (append_assoc us taken.front (left_of taken.back ++ taken.back));
           next = taken.next;
         };
@@ -87,20 +91,20 @@ module _ (name : List ℕ) where
   left_units xs n k l (m ∷ ms) is = ap (λ b. units_from xs n (cond b (empty_line ∷ []) [] ++ m ∷ ms)) is.0
 
   -- of lines that end as those of a text do
-  abbrev Taken : Claim name
+  abbrev Taken : Claim table name
   Taken xs ys n ls = AreEnded ls → AreTaken (units_from xs n ls) (units_from xs n (lines_from gone xs n ls)) (newlines ls) (newlines (lines_from gone xs n ls))
 
-  behind_one : BehindOne name Taken
+  behind_one : BehindOne table name Taken
   behind_one xs ys n l ls alike stays more is =
       let kept = lines_from gone (xs ++ named_by xs n l.expr) (n + 1) ls in
       subst (λ r. AreTaken (units_from xs n (l ∷ ls)) (units_from xs n (r ++ kept)) (newlines (l ∷ ls)) (newlines (r ++ kept))) (sym stays.0)
       (taken_behind (line_units xs l.expr) (units_from (xs ++ named_by xs n l.expr) (n + 1) ls) (units_from (xs ++ named_by xs n l.expr) (n + 1) kept) (newlines ls) (newlines kept) l.newline.text (line_lines xs l.expr) (more (later l ls is)))
 
-  at_one : AtOne name Taken
+  at_one : AtOne table name Taken
   at_one xs ys n l ls alike goes same is =
       let behind_it : AreAlike xs (xs ++ named_by xs n l.expr) =
-      alike_trans xs (ys ++ root_pair name goes.value) (xs ++ named_by xs n l.expr)
-      (alike_trans xs ys (ys ++ root_pair name goes.value) alike (goes.alike ys alike))
+      alike_trans xs (ys ++ pair_at p goes.value) (xs ++ named_by xs n l.expr)
+      (alike_trans xs ys (ys ++ pair_at p goes.value) alike (goes.alike ys alike))
       (subst (λ b. AreAlike (ys ++ b) (xs ++ named_by xs n l.expr)) (goes.names ys alike) (alike_sym (xs ++ named_by xs n l.expr) (ys ++ named_by ys 0 l.expr) (next_alike xs ys n l.expr alike))) in
       let us = units_from (xs ++ named_by xs n l.expr) (n + 1) ls in
       let again : units_from xs n ls ≡ us = units_alike ls xs (xs ++ named_by xs n l.expr) n (n + 1) behind_it in
@@ -122,9 +126,18 @@ module _ (name : List ℕ) where
             ∙ ap₂ (λ r k. slice_get (newlines r) k) (sym (ap₂ (λ x y. x ++ y) goes.gone same)) (let e : a ≡ 0 + a = omega arith in e);
       }
 
-  pub lines_taken : (lines : List Line) → AreLines lines → HasPair lines (Name name ∷ []) → KeepsRules (named lines)
-      → AreTaken (units lines) (units (remove_lines (Name name ∷ []) lines)) (newlines lines) (newlines (remove_lines (Name name ∷ []) lines))
-  lines_taken lines is there keeps = by_document name Taken behind_one at_one lines there keeps (ended lines is)
+  pub lines_taken : (lines : List Line) → AreLines lines → HasLine lines p → KeepsRules (named lines)
+      → AreTaken (units lines) (units (remove_lines p lines)) (newlines lines) (newlines (remove_lines p lines))
+  lines_taken lines is there keeps = by_document table name Taken behind_one at_one lines there keeps (ended lines is)
 
 pub remove_units : RemoveUnits
-remove_units name lines is there keeps = let h = lines_taken name lines is there keeps in (h.piece, h.value, h.comment, h.taken)
+remove_units p lines is there keeps =
+    let (table, name, at) = line_parts p lines there in
+    let h = lines_taken table name lines is (subst (HasLine lines) at there) keeps in (
+      h.piece,
+      length table,
+      h.value,
+      h.comment,
+      ap length at ∙ length-append table (Name name ∷ []),
+      subst (λ q. IsBlockTaken (units lines) (pair_line h.piece q (length table) h.value h.comment) (units (remove_lines q lines))) (sym at) h.taken,
+    )

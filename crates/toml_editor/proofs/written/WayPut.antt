@@ -18,7 +18,7 @@ use Rattle.toml_working.specs.Inserting.{insert_lines}
 use Rattle.toml_working.specs.Manners.{Manner}
 use Rattle.toml_layout.specs.Spacings.{Spacing}
 use Rattle.toml_working.specs.Together.{GoTogether}
-use Rattle.toml_editor.specs.UnitBlocks.{BeginWithLine, root_line, pair_text}
+use Rattle.toml_editor.specs.UnitBlocks.{BeginWithLine, pair_line, pair_text}
 use Rattle.toml_editor.proofs.Each.{each_append}
 use Rattle.toml_editor.proofs.written.Way.{both, new, olds, news, one_line}
 use Rattle.toml_editor.proofs.written.WayBlock.{line_after, olds_append, news_append, added_append, fits_append, new_fits, new_olds, new_news, new_adds, lines_append, inside_lines, same_comments, inside_asked}
@@ -71,7 +71,7 @@ module _ (name text : List ℕ) (v : Value) (s : Spacing) where
       stays (Some x) = refl
 
   abbrev block : List TextUnit
-  block = root_line (fresh (pair_text s name v)) name v None
+  block = pair_line (fresh (pair_text s name v)) (Name name ∷ []) 0 v None
 
   block_asked : (before after : List (List ℕ)) → EachIs (λ w. (k : ℕ) → IsAsked (c ∷ []) (ts ∷ []) before after k w) block
   block_asked before after = (

@@ -1,13 +1,14 @@
--- The way of a `remove` at the root.
+-- The way of the `remove` of a line.
 use Rattle.std.proofs.Common.{◌≡◌, ◌⊎◌, inl, inr, ◌<◌, ◌+◌, ℕ, suc, Bool, true, false, cond, ◌&&◌, Option, Some, None, List, [], ◌∷◌, ◌++◌, map, length, refl, sym, ap, ap₂, ◌∙◌, subst, subst₂, true≢false, arith, append-nil}
-use Rattle.std.specs.Prelude.{slice_get, option_and_then, not}
+use Rattle.std.specs.Prelude.{slice_get, option_and_then, option_map, not}
 use Rattle.toml_tree.specs.Spells.{EachIs, AreLines}
 use Rattle.toml_tree.specs.Tree.{Piece, Line}
+use Rattle.toml_names.specs.declared.model.address.Step.{Step as AddressStep}
 use Rattle.toml_names.specs.declared.model.address.Step.TheVariants.{Name}
 use Rattle.toml_names.specs.mentions.Clear.{IsClear}
 use Rattle.toml_names.specs.mentions.Mentions.{named, root}
 use Rattle.toml_names.specs.mentions.Rules.{KeepsRules}
-use Rattle.toml_names.specs.model.Addresses.{Address, IsAbove}
+use Rattle.toml_names.specs.model.Addresses.{Address, IsAbove, child}
 use Rattle.toml_edits.specs.Carry.{carry}
 use Rattle.toml_edits.specs.Edits.{Change, remove}
 use Rattle.toml_units.specs.declared.unit.UnitKind.{UnitKind}
@@ -17,17 +18,18 @@ use Rattle.toml_units.specs.Units.{TextUnit, comment_units, inside, units}
 use Rattle.toml_edits.specs.declared.side.Side.{Side}
 use Rattle.toml_edits.specs.declared.side.Side.TheVariants as sides
 use Rattle.toml_checker.specs.declared.tables.Part.TheVariants as parts
-use Rattle.toml_checker.specs.CarriedTo.{At}
+use Rattle.toml_checker.specs.CarriedTo.{At, IsAtOrAbove}
 use Rattle.toml_checker.specs.Comments.{texts, is_comment}
 use Rattle.toml_checker.specs.Owed.{IsOwed}
 use Rattle.toml_checker.specs.Plain.{Site, site, next_line, stands, is_named, is_kept, home_stands, part_is_gone}
 use Rattle.toml_edits.specs.Sides.{side}
-use Rattle.toml_edits.proofs.Proved.{sides_are_right}
+use Rattle.toml_edits.proofs.Proved.{parted_at_last, sides_are_right}
 use Rattle.toml_editor.specs.ChangedUnits.{is_inner, LiesInValue}
 use Rattle.toml_working.specs.Removing.{remove_lines}
-use Rattle.toml_editor.specs.UnitBlocks.{root_line, left_of, BeginWithLine}
-use Rattle.toml_working.specs.Written.{HasPair}
+use Rattle.toml_editor.specs.UnitBlocks.{pair_line, left_of, BeginWithLine}
+use Rattle.toml_working.specs.Written.{HasLine}
 use Rattle.toml_editor.proofs.Each.{each_front, each_back}
+use Rattle.toml_editor.proofs.written.RemoveKept.{removed_below}
 use Rattle.toml_editor.proofs.written.SetKept.{clear_carried}
 use Rattle.toml_editor.proofs.written.UnitsGone.{inner_line, value_in}
 use Rattle.toml_editor.proofs.written.UnitsTaken.{AreTaken, lines_taken}
@@ -54,9 +56,20 @@ old_adds : (us : List TextUnit) → added (map old us) ≡ []
 old_adds [] = refl
 old_adds (u ∷ us) = old_adds us
 
-module _ (name : List ℕ) (before after : List (List ℕ)) where
+-- what is above a member of a table is the table or above it
+above_member : (q : Address) (n : List ℕ) (a : Address) → IsAbove a (child q n) → IsAtOrAbove a q
+above_member q n [] above = (q, refl)
+above_member [] n (t ∷ []) (s, rest, is) = cc
+above_member [] n (t ∷ u ∷ a) (s, rest, is) = cc
+above_member (r ∷ q) n (t ∷ a) (s, rest, is) =
+    let head : r ≡ t = cc in
+    let tail : child q n ≡ a ++ s ∷ rest = cc in
+    let more = above_member q n a (s, rest, tail) in
+    (more.0, ap₂ (λ x y. x ∷ y) head more.1)
+
+module _ (table : Address) (name : List ℕ) (before after : List (List ℕ)) where
   abbrev p : Address
-  p = Name name ∷ []
+  p = child table name
 
   abbrev c : Change
   c = remove p
@@ -74,9 +87,8 @@ module _ (name : List ℕ) (before after : List (List ℕ)) where
   owed : (a : Address) → IsClear p a → IsNear p a → IsOwed (c ∷ []) a
   owed a clear (inl ([], is)) = absurd (clear.apart (sym (append-nil p) ∙ sym is))
   owed a clear (inl (s ∷ rest, is)) = absurd (clear.not_above (s, rest, is))
-  owed [] clear (inr above) = inl ([], [], refl, refl, ([], refl))
-  owed (t ∷ []) clear (inr (s, rest, is)) = cc
-  owed (t ∷ u ∷ a) clear (inr (s, rest, is)) = cc
+  owed a clear (inr above) =
+      inl (table, table, ap (option_map (λ (w : Address × AddressStep). w.0)) (parted_at_last table (Name name)), refl, above_member table name a above)
 
   home_side : (a : Address) (base : Option ℕ) → IsClear p a → (t : Side) → side p a ≡ t → not (is_named parts.Home c base t) && true ≡ true
   home_side a base clear sides.Above is = absurd (clear.not_above ((sides_are_right p a).above.0 is))
@@ -121,14 +133,17 @@ module _ (name : List ℕ) (before after : List (List ℕ)) where
       by kinds.InnerComment (Some a) base far (inl home) lost = absurd (true≢false (sym (ap₂ (λ x y. x && y) home (self_side a (far a refl) (side p a) refl)) ∙ lost))
       by kinds.InnerComment o base far (inr e) lost = cc
 
+  carried_on : (a : Address) → IsClear p a → carry c a ≡ Some a
+  carried_on a clear = removed_below table name a ∙ clear_carried p a clear
+
   stays : (o : Option Address) → ((a : Address) → o ≡ Some a → IsClear p a) → o ≡ option_and_then (carry c) o
   stays None far = refl
-  stays (Some x) far = sym (clear_carried p x (far x refl))
+  stays (Some x) far = sym (carried_on x (far x refl))
 
   matches : (line : Option Site) (a b : ℕ) (u : TextUnit) → IsFar u → IsHome line ⊎ (u.kind ≡ kinds.Line) → (u.kind ≡ kinds.Line → SameNewline (c ∷ []) ([] ∷ []) before after a b) → Matches (c ∷ []) ([] ∷ []) before after line a b u u
   matches line a b u far home same = record {
     kind = refl;
-    kept = λ here. record { text = refl; address = carried_to c u.address u.address (stays u.address far) (λ x at. (x, clear_carried p x (far x at))); newline = same };
+    kept = λ here. record { text = refl; address = carried_to c u.address u.address (stays u.address far) (λ x at. (x, carried_on x (far x at))); newline = same };
     lost = λ gone. (
       (λ is_line. let l = lost_line c tt line u is_line gone in subst (λ o. At o (IsOwed (c ∷ []))) (sym l.1) (owed l.0 (far l.0 l.1) l.2)),
       comment_kept line u far home gone,
@@ -163,7 +178,7 @@ module _ (name : List ℕ) (before after : List (List ℕ)) where
   -- ---- the line that goes
 
   abbrev Gone : Site
-  Gone = record { kind = kinds.Line; address = Some p; base = Some 0 }
+  Gone = record { kind = kinds.Line; address = Some p; base = Some (length table) }
 
   at_it : side p p ≡ sides.At
   at_it = (sides_are_right p p).at.1 refl
@@ -172,7 +187,7 @@ module _ (name : List ℕ) (before after : List (List ℕ)) where
   and_left b is = ap (λ x. x && b) is
 
   home_gone : home_stands (c ∷ []) (Some Gone) ≡ false
-  home_gone = ap (λ s. not (is_named parts.Home c (Some 0) s) && true) at_it
+  home_gone = ap (λ s. not (is_named parts.Home c (Some (length table)) s) && true) at_it
 
   inner_lost : (us : List TextUnit) → EachIs (LiesInValue p) us → (a b : ℕ) → Fit (Some Gone) a b (map old us)
   inner_lost [] lies a b = tt
@@ -198,8 +213,8 @@ module _ (name : List ℕ) (before after : List (List ℕ)) where
       by kinds.Pair (Some x) base inner (inr h) more = let e = h.1 in cc
       by kinds.InnerComment (Some x) base inner h more = (and_left (stands parts.Comment (c ∷ []) (Some x) base) home_gone, more (a + 0))
 
-  line_gone : stands parts.Line (c ∷ []) (Some p) (Some 0) ≡ false
-  line_gone = ap (λ s. not (is_named parts.Line c (Some 0) s) && true) at_it
+  line_gone : stands parts.Line (c ∷ []) (Some p) (Some (length table)) ≡ false
+  line_gone = ap (λ s. not (is_named parts.Line c (Some (length table)) s) && true) at_it
 
   tail_lost : (o : Option Piece) (a b : ℕ) → Fit (Some Gone) a b (map old (comment_units kinds.TailComment (Some p) o))
   tail_lost None a b = tt
@@ -212,9 +227,9 @@ module _ (name : List ℕ) (before after : List (List ℕ)) where
   left_asked (u ∷ us) k count line a = tt
 
 -- behind the block come all lines but what is left
-module _ (name : List ℕ) (lines : List Line) where
+module _ (table : Address) (name : List ℕ) (lines : List Line) where
   abbrev gone : Address
-  gone = Name name ∷ []
+  gone = child table name
 
   abbrev edited : List Line
   edited = remove_lines gone lines
@@ -233,14 +248,14 @@ module _ (name : List ℕ) (lines : List Line) where
   abbrev Keep : Option Site → Option Site → ℕ → ℕ → List Step → Type 0
   Keep = Keeps (remove gone ∷ []) (newlines lines) (newlines edited)
 
-  taken_keeps : (h : AreTaken name (units lines) (units edited) (newlines lines) (newlines edited))
-      → EachIs (IsFar name (newlines lines) (newlines edited)) h.taken.front
-      → EachIs (IsFar name (newlines lines) (newlines edited)) h.taken.back
-      → lines_in (root_line h.piece name h.value h.comment) ≡ 1
+  taken_keeps : (h : AreTaken table name (units lines) (units edited) (newlines lines) (newlines edited))
+      → EachIs (IsFar table name (newlines lines) (newlines edited)) h.taken.front
+      → EachIs (IsFar table name (newlines lines) (newlines edited)) h.taken.back
+      → lines_in (pair_line h.piece gone (length table) h.value h.comment) ≡ 1
       → lines_in h.taken.front + (1 + lines_in h.taken.back) ≡ length (newlines lines)
       → lines_in h.taken.front + lines_in (left_of h.taken.back ++ h.taken.back) ≡ length (newlines edited)
       → Keep None None 0 0 (same_way h.taken.front ++
-      (map old (root_line h.piece name h.value h.comment) ++ (map new (left_of h.taken.back) ++ same_way h.taken.back)))
+      (map old (pair_line h.piece gone (length table) h.value h.comment) ++ (map new (left_of h.taken.back) ++ same_way h.taken.back)))
   taken_keeps h front_far back_far block_lines old_total new_total =
       let c = remove gone in
       let before = newlines lines in
@@ -248,7 +263,7 @@ module _ (name : List ℕ) (lines : List Line) where
       let front = h.taken.front in
       let back = h.taken.back in
       let left = left_of back in
-      let block = root_line h.piece name h.value h.comment in
+      let block = pair_line h.piece gone (length table) h.value h.comment in
       let n = lines_in front in
       let some = left_lines back h.taken.next in
       let line = line_after None (same_way front) in
@@ -260,7 +275,7 @@ module _ (name : List ℕ) (lines : List Line) where
       let olds_block = ap lines_in (old_olds block) in
       let news_block = ap lines_in (old_news block) in
       keeps_append c before after (same_way front) (map old block ++ (map new left ++ same_way back)) None None 0 0
-      (same_keeps c before after front (far_fixed name before after front front_far) None None (inl refl) 0 0
+      (same_keeps c before after front (far_fixed table name before after front front_far) None None (inl refl) 0 0
       (λ x low. record {
         newline = let e : x ≡ 0 + x = omega arith in inl (subst (λ k. slice_get before k ≡ slice_get after k) e (h.front_ends x low));
         last = λ at. let f : ⊥ = omega (arith, low, some, at, new_total) in absurd f;
@@ -278,8 +293,8 @@ module _ (name : List ℕ) (lines : List Line) where
       (new_keeps c before after left (left_blank back) behind mid (n + 1) n)
       (back_keeps h back back_far refl (line_after behind (map new left)) (next_after mid (map new left)) old_total new_total)))))
     where
-      back_keeps : (h : AreTaken name (units lines) (units edited) (newlines lines) (newlines edited)) (back : List TextUnit)
-          → EachIs (IsFar name (newlines lines) (newlines edited)) back → back ≡ h.taken.back → (line next : Option Site)
+      back_keeps : (h : AreTaken table name (units lines) (units edited) (newlines lines) (newlines edited)) (back : List TextUnit)
+          → EachIs (IsFar table name (newlines lines) (newlines edited)) back → back ≡ h.taken.back → (line next : Option Site)
           → lines_in h.taken.front + (1 + lines_in h.taken.back) ≡ length (newlines lines)
           → lines_in h.taken.front + lines_in (left_of h.taken.back ++ h.taken.back) ≡ length (newlines edited)
           → Keep line next ((lines_in h.taken.front + 1) + lines_in (olds (map new (left_of h.taken.back))))
@@ -295,7 +310,7 @@ module _ (name : List ℕ) (lines : List Line) where
           (let e : n + 1 ≡ (n + 1) + lines_in (olds (map new (left_of h.taken.back))) = omega (arith, zero_old) in e)
           (let e : n ≡ n + lines_in (news (map new (left_of h.taken.back))) = omega (arith, zero_new) in e)
           (same_keeps (remove gone) (newlines lines) (newlines edited) (u ∷ us)
-          (far_fixed name (newlines lines) (newlines edited) (u ∷ us) far) line next (inr (subst BeginWithLine (sym is) h.taken.next))
+          (far_fixed table name (newlines lines) (newlines edited) (u ∷ us) far) line next (inr (subst BeginWithLine (sym is) h.taken.next))
           (n + 1) n
           (λ x low. record {
             newline =
@@ -305,16 +320,16 @@ module _ (name : List ℕ) (lines : List Line) where
           })
           (inl (λ x low at. omega (arith, at, first, second))))
 
-  way_by : (h : AreTaken name (units lines) (units edited) (newlines lines) (newlines edited))
-      → EachIs (IsFar name (newlines lines) (newlines edited)) (units edited) → HasWay (remove gone ∷ []) ([] ∷ []) lines edited
+  way_by : (h : AreTaken table name (units lines) (units edited) (newlines lines) (newlines edited))
+      → EachIs (IsFar table name (newlines lines) (newlines edited)) (units edited) → HasWay (remove gone ∷ []) ([] ∷ []) lines edited
   way_by h far =
       let front = h.taken.front in
       let back = h.taken.back in
       let left = left_of back in
       let inner = inside gone h.value in
       let tail = comment_units kinds.TailComment (Some gone) h.comment in
-      let block = root_line h.piece name h.value h.comment in
-      let all_far = subst (EachIs (IsFar name (newlines lines) (newlines edited))) h.taken.after far in
+      let block = pair_line h.piece gone (length table) h.value h.comment in
+      let all_far = subst (EachIs (IsFar table name (newlines lines) (newlines edited))) h.taken.after far in
       let front_far = each_front _ front (left ++ back) all_far in
       let back_far = each_back _ left back (each_back _ front (left ++ back) all_far) in
       let head = same_way front in
@@ -337,14 +352,14 @@ module _ (name : List ℕ) (lines : List Line) where
             ∙ sym h.taken.after;
         fits =
             fits_append (remove gone ∷ []) ([] ∷ []) (newlines lines) (newlines edited) head goes None 0 0
-            (same_fits name (newlines lines) (newlines edited) front front_far None 0 0 (inl refl) (λ x low. inl (let e : x ≡ 0 + x = omega arith in subst (λ k. slice_get (newlines lines) k ≡ slice_get (newlines edited) k) e (h.front_ends x low))))
+            (same_fits table name (newlines lines) (newlines edited) front front_far None 0 0 (inl refl) (λ x low. inl (let e : x ≡ 0 + x = omega arith in subst (λ k. slice_get (newlines lines) k ≡ slice_get (newlines edited) k) e (h.front_ends x low))))
             (subst₂ (λ a b. Fitting (line_after None head) a b goes) (let e = ap lines_in (same_olds front) in let f : n ≡ 0 + lines_in (olds head) = omega (arith, e) in f) (let e = ap lines_in (same_news front) in let f : n ≡ 0 + lines_in (news head) = omega (arith, e) in f)
             (fits_append (remove gone ∷ []) ([] ∷ []) (newlines lines) (newlines edited) (map old block) last (line_after None head) n n
             (block_goes h (line_after None head) n)
             (subst₂ (λ a b. Fitting (line_after (line_after None head) (map old block)) a b last) (let e = ap lines_in (old_olds block) in let f : n + 1 ≡ n + lines_in (olds (map old block)) = omega (arith, e, block_lines) in f)
             (let e = ap lines_in (old_news block) in let f : n ≡ n + lines_in (news (map old block)) = omega (arith, e) in f)
             (fits_append (remove gone ∷ []) ([] ∷ []) (newlines lines) (newlines edited) (map new left) (same_way back) (line_after (line_after None head) (map old block)) (n + 1) n
-            (left_asked name (newlines lines) (newlines edited) back n total (line_after (line_after None head) (map old block)) (n + 1))
+            (left_asked table name (newlines lines) (newlines edited) back n total (line_after (line_after None head) (map old block)) (n + 1))
             (back_stays h (line_after (line_after (line_after None head) (map old block)) (map new left)) back back_far refl)))));
         keeps = taken_keeps h front_far back_far block_lines old_total total;
         comments_few = λ t. as_many t (texts (comments (added (head ++ goes)))) []
@@ -364,24 +379,24 @@ module _ (name : List ℕ) (lines : List Line) where
       map_append_old [] ys = refl
       map_append_old (x ∷ xs) ys = ap (λ l. old x ∷ l) (map_append_old xs ys)
 
-      after_inner : (xs : List TextUnit) → EachIs (LiesInValue gone) xs → line_after (Some (Gone name (newlines lines) (newlines edited))) (map old xs) ≡ Some (Gone name (newlines lines) (newlines edited))
+      after_inner : (xs : List TextUnit) → EachIs (LiesInValue gone) xs → line_after (Some (Gone table name (newlines lines) (newlines edited))) (map old xs) ≡ Some (Gone table name (newlines lines) (newlines edited))
       after_inner [] lies = refl
-      after_inner (x ∷ xs) lies = ap (λ b. line_after (cond b (Some (site x)) (Some (Gone name (newlines lines) (newlines edited)))) (map old xs)) (inner_line x.kind lies.0.0) ∙ after_inner xs lies.1
+      after_inner (x ∷ xs) lies = ap (λ b. line_after (cond b (Some (site x)) (Some (Gone table name (newlines lines) (newlines edited)))) (map old xs)) (inner_line x.kind lies.0.0) ∙ after_inner xs lies.1
 
-      block_goes : (h : AreTaken name (units lines) (units edited) (newlines lines) (newlines edited)) (line : Option Site) (n : ℕ) → Fitting line n n (map old (root_line h.piece name h.value h.comment))
+      block_goes : (h : AreTaken table name (units lines) (units edited) (newlines lines) (newlines edited)) (line : Option Site) (n : ℕ) → Fitting line n n (map old (pair_line h.piece gone (length table) h.value h.comment))
       block_goes h line n =
           let inner = inside gone h.value in
           let tail = comment_units kinds.TailComment (Some gone) h.comment in
           let lies = value_in gone h.value gone (inr refl) in (
-            line_gone name (newlines lines) (newlines edited),
-            subst (Fitting (Some (Gone name (newlines lines) (newlines edited))) (n + 1) n) (sym (map_append_old inner tail))
-                (fits_append (remove gone ∷ []) ([] ∷ []) (newlines lines) (newlines edited) (map old inner) (map old tail) (Some (Gone name (newlines lines) (newlines edited))) (n + 1) n
-                (inner_lost name (newlines lines) (newlines edited) inner lies (n + 1) n)
+            line_gone table name (newlines lines) (newlines edited),
+            subst (Fitting (Some (Gone table name (newlines lines) (newlines edited))) (n + 1) n) (sym (map_append_old inner tail))
+                (fits_append (remove gone ∷ []) ([] ∷ []) (newlines lines) (newlines edited) (map old inner) (map old tail) (Some (Gone table name (newlines lines) (newlines edited))) (n + 1) n
+                (inner_lost table name (newlines lines) (newlines edited) inner lies (n + 1) n)
                 (subst (λ l. Fitting l ((n + 1) + lines_in (olds (map old inner))) (n + lines_in (news (map old inner))) (map old tail)) (sym (after_inner inner lies))
-                (tail_lost name (newlines lines) (newlines edited) h.comment ((n + 1) + lines_in (olds (map old inner))) (n + lines_in (news (map old inner)))))),
+                (tail_lost table name (newlines lines) (newlines edited) h.comment ((n + 1) + lines_in (olds (map old inner))) (n + lines_in (news (map old inner)))))),
           )
 
-      back_stays : (h : AreTaken name (units lines) (units edited) (newlines lines) (newlines edited)) (line : Option Site) (back : List TextUnit) → EachIs (IsFar name (newlines lines) (newlines edited)) back → back ≡ h.taken.back
+      back_stays : (h : AreTaken table name (units lines) (units edited) (newlines lines) (newlines edited)) (line : Option Site) (back : List TextUnit) → EachIs (IsFar table name (newlines lines) (newlines edited)) back → back ≡ h.taken.back
           → Fitting line ((lines_in h.taken.front + 1) + lines_in (olds (map new (left_of h.taken.back)))) (lines_in h.taken.front + lines_in (news (map new (left_of h.taken.back)))) (same_way back)
       back_stays h line [] far is = tt
       back_stays h line (u ∷ us) far is =
@@ -390,9 +405,9 @@ module _ (name : List ℕ) (lines : List Line) where
           let zero_old = ap (λ l. lines_in (olds (map new l))) none in
           let zero_new = ap (λ l. lines_in (news (map new l))) none in
           subst₂ (λ a b. Fitting line a b (same_way (u ∷ us))) (let e : n + 1 ≡ (n + 1) + lines_in (olds (map new (left_of h.taken.back))) = omega (arith, zero_old) in e) (let e : n ≡ n + lines_in (news (map new (left_of h.taken.back))) = omega (arith, zero_new) in e)
-          (same_fits name (newlines lines) (newlines edited) (u ∷ us) far line (n + 1) n (inr (subst BeginWithLine (sym is) h.taken.next))
+          (same_fits table name (newlines lines) (newlines edited) (u ∷ us) far line (n + 1) n (inr (subst BeginWithLine (sym is) h.taken.next))
           (λ x low. inl (ap (slice_get (newlines lines)) (let e : (n + 1) + x ≡ n + suc x = omega arith in e) ∙ h.back_ends x (subst (λ l. x < lines_in l) is low))))
 
-  pub remove_way : AreLines lines → HasPair lines gone → KeepsRules (named lines)
-      → EachIs (IsFar name (newlines lines) (newlines edited)) (units edited) → HasWay (remove gone ∷ []) ([] ∷ []) lines edited
-  remove_way is there keeps far = way_by (lines_taken name lines is there keeps) far
+  pub remove_way : AreLines lines → HasLine lines gone → KeepsRules (named lines)
+      → EachIs (IsFar table name (newlines lines) (newlines edited)) (units edited) → HasWay (remove gone ∷ []) ([] ∷ []) lines edited
+  remove_way is there keeps far = way_by (lines_taken table name lines is there keeps) far

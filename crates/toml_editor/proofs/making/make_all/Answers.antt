@@ -4,7 +4,7 @@ use Rattle.toml_edits.specs.Drafts.{drafted}
 use Rattle.toml_edits.specs.Edits.{change}
 use Rattle.toml_edits.specs.Lists.{Lead}
 use Rattle.toml_editor.specs.Exact.{HoldsLast, BelowLast, MakesAll}
-use Rattle.toml_editor.specs.LastTexts.{ChangesLines, IsBelowHeader, IsHeldOrUndotted, PutsBelowHeader}
+use Rattle.toml_editor.specs.LastTexts.{ChangesLines, IsBelowHeader, IsInContainer, PutsBelowHeader}
 use Rattle.toml_editor.specs.Made.{places_in}
 use Rattle.toml_working.specs.Manners.{Manner}
 use Rattle.toml_working.specs.Starting.{read_of}
@@ -29,7 +29,7 @@ loop-index-init c =
       (λ a. refl),
       none_made profile read tree,
       none_passed profile read (map change c.args.edits.now) (drafted c.args.draft.now) tree,
-      none_last IsHeldOrUndotted (λ (m : Manner). ChangesLines m.layout profile) profile read tree,
+      none_last IsInContainer (λ (m : Manner). ChangesLines m.layout profile) profile read tree,
       none_last IsBelowHeader (PutsBelowHeader profile) profile read tree,
     )
 
@@ -52,7 +52,7 @@ loop-index-preserved c =
           (subst (λ ds. Lead profile ds near part) taken here.invariant.0) (subst (λ ds. MakesAll profile read ds old here.tree) taken here.invariant.1)
           (get_map edits here.index edit (omega arith) c.index-edits-index.is) c.in_default.ensures.made.done.passes,
       subst (λ ds. HoldsLast profile read ds old c.make.new.tree) (sym (taken_on edits here.index edit (omega arith) c.index-edits-index.is))
-          (last_made IsHeldOrUndotted (λ (m : Manner). ChangesLines m.layout profile) profile read made (change edit) old here.tree c.make.new.tree here.invariant.1 c.in_default.ensures.made.done.holds),
+          (last_made IsInContainer (λ (m : Manner). ChangesLines m.layout profile) profile read made (change edit) old here.tree c.make.new.tree here.invariant.1 c.in_default.ensures.made.done.holds),
       subst (λ ds. BelowLast profile read ds old c.make.new.tree) (sym (taken_on edits here.index edit (omega arith) c.index-edits-index.is))
           (last_made IsBelowHeader (PutsBelowHeader profile) profile read made (change edit) old here.tree c.make.new.tree here.invariant.1 c.in_default.ensures.made.done.below),
     )

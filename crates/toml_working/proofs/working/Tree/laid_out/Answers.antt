@@ -1,15 +1,18 @@
 use Rattle.std.proofs.Common.{ap, sym}
 use Rattle.std.proofs.lemmas.Result.{IfOk-weaker}
 use Rattle.toml_layout.specs.declared.layout.Layout.{Layout}
-use Rattle.toml_working.specs.InsertStanding.{spacing_of}
+use Rattle.toml_working.specs.FirstKeys.{spacing_after}
 use Rattle.toml_working.specs.Looking.{BeginsBehind, LaysOut}
+use Rattle.toml_working.specs.Placing.{lines_before}
 use Rattle.toml_layout.specs.Spacings.{laid_out}
 use Rattle.toml_working.specs.Starting.{read_of}
 use Rattle.toml_working.proofs.Looked.{follow_lays}
 use Rattle.toml_working.proofs.working.Tree.laid_out.Goals as goal
 
 pub returns-in-Plain : goal.returns-in-Plain
-returns-in-Plain c s e head = sym (ap (λ (l : Layout). laid_out l (spacing_of s.base s.outline)) c.in-Plain.is)
+returns-in-Plain c s e =
+    let front = lines_before (read_of c.args.before) c.args.self.now.slots.items c.args.behind.slot c.args.behind.index in
+    sym (ap (λ (l : Layout). laid_out l (spacing_after front s.base s.address s.outline)) c.in-Plain.is)
 
 pub returns-in-Follow : goal.returns-in-Follow
 returns-in-Follow c =
