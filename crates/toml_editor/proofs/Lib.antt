@@ -2,7 +2,6 @@ pub mod Shapes
 pub mod MadeEdits
 pub mod MakesExact
 pub mod PlainMade
-pub mod OneBelow
 pub mod OneChanged
 pub mod PassedSpread
 pub mod Judgements

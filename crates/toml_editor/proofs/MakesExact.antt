@@ -1,15 +1,11 @@
 -- The making of edits, one after the other, and the texts for which the working tree then stands.
-use Rattle.std.proofs.Common.{◌≡◌, ◌⊎◌, ◌+◌, ◌<◌, ◌≤◌, inl, inr, ℕ, Bool, List, [], ◌∷◌, ◌++◌, drop, length, map, take, true, false, true≢false, None, Some, refl, sym, ap, ap₂, subst, subst₂, ◌∙◌, arith}
+use Rattle.std.proofs.Common.{◌≡◌, ◌⊎◌, ◌+◌, ◌<◌, ◌≤◌, inl, inr, ℕ, Bool, List, [], ◌∷◌, ◌++◌, take, true, false, true≢false, None, Some, refl, sym, ap, ap₂, subst, subst₂, ◌∙◌, arith}
 use Rattle.std.proofs.lemmas.Bool.{cases_lt}
 use Rattle.std.proofs.lemmas.Option.{same_Some}
 use Rattle.std.proofs.Math.Path.{fun_ext}
-use Rattle.std.specs.Prelude.{slice_get, string_bytes}
-use Rattle.std.specs.declared.alloc.Global.{Global}
-use Rattle.std.specs.declared.string.String.{String}
-use Rattle.toml_scalar.specs.Spelling.{spelled as spelled_name}
+use Rattle.std.specs.Prelude.{slice_get}
 use Rattle.std.specs.List.{list_any}
 use Rattle.toml_tree.proofs.Proved.{one_tree}
-use Rattle.toml_tree.specs.Profiles.{SpellsIn}
 use Rattle.toml_tree.specs.Spells.{Spells}
 use Rattle.toml_tree.specs.Tree.{Doc, Line}
 use Rattle.toml_tree.specs.declared.profile.Profile.{Profile}
@@ -28,9 +24,9 @@ use Rattle.toml_working.specs.declared.working.Tree.{Tree}
 use Rattle.toml_editor.specs.CertifiedLists.{ArePlain}
 use Rattle.toml_editor.specs.Edited.{MayBeSpread, TakesLastElement}
 use Rattle.toml_working.specs.InValues.{Places}
-use Rattle.toml_editor.specs.LastTexts.{IsPutThere}
-use Rattle.toml_editor.specs.Exact.{Follows, HoldsOne, IsAt, IsOnePlace, IsSpreadOn, IsNeitherAt, IsNeitherOn, LastMakesAs, BelowOne, MakesAll, MakesAs, MakesOne, OfPlain, OfNoPlaceAt, PassesAll, PassesAt, PassesOne, Stops, WritesEdit}
-use Rattle.toml_working.specs.Putting.{IsNameIn, manner}
+use Rattle.toml_editor.specs.LastTexts.{ChangesLines, IsInContainer, IsPutThere}
+use Rattle.toml_editor.specs.Exact.{Follows, HoldsOne, IsAt, IsOnePlace, IsSpreadOn, IsNeitherAt, IsNeitherOn, HoldsLast, MakesAll, MakesOne, OfPlain, OfNoPlaceAt, PassesAll, PassesAt, PassesOne, Stops, WritesEdit}
+use Rattle.toml_working.specs.Putting.{manner}
 use Rattle.toml_editor.specs.Making.{TellsOne}
 use Rattle.toml_editor.specs.PlainTexts.{HasContainerFor, IsPlainOrHeld, IsPlainOn}
 use Rattle.toml_text.specs.Source.{text_of}
@@ -39,11 +35,9 @@ use Rattle.toml_working.proofs.Proved.{held_inside, parent_held}
 use Rattle.toml_working.specs.HeldLines.{has_container_at}
 use Rattle.toml_working.specs.Standing.{Read, Standing, holds, standing}
 use Rattle.toml_working.specs.Stands.{Stands}
-use Rattle.toml_editor.specs.SpelledEdits.{AreSteps, step_spelled}
 use Rattle.toml_editor.specs.Steps.{AreWritten}
 use Rattle.toml_working.specs.Written.{IsWritten}
 use Rattle.toml_editor.proofs.written.Follow.{remove_follows, set_follows, set_is_there}
-use Rattle.toml_editor.proofs.written.HeadersAlone.{header_is_alone}
 use Rattle.toml_editor.proofs.written.InsertFollow.{insert_follows}
 use Rattle.toml_editor.proofs.written.RemoveNamed.{line_parts}
 use Rattle.toml_editor.proofs.written.RenameFollow.{rename_follows}
@@ -70,23 +64,13 @@ makes_one profile read (insert p value) old new done writes text kinds now at no
     let (steps, rest, spelled, inserts, inside, below) = writes at.whole in
     let given = is_after.1.value in
     insert_follows profile read old new p value text kinds now at none is_after (plain at.good.tree at.good.spelled) rest
-    given.tree given.is_value steps spelled (inserts given.within given.tree given.is_value)
+    given.tree given.is_value steps spelled (inserts given.within given.tree given.is_value) (below given.within given.tree given.is_value)
 makes_one profile read (rename p to) old new done writes text kinds now at none is_after plain =
     rename_follows profile read old new p to text kinds now at none is_after (writes at.whole)
 makes_one profile read (remove p) old new done writes text kinds now at none is_after plain =
     remove_follows profile read old new p text kinds now at none is_after (plain at.good.tree at.good.spelled) (writes at.whole).0
 makes_one profile read (new_section p) old new done writes text kinds now at none is_after plain = absurd (plain at.good.tree at.good.spelled)
 makes_one profile read (new_element p) old new done writes text kinds now at none is_after plain = absurd (plain at.good.tree at.good.spelled)
-
--- the spelling of the last step
-name_spelled : (q : Address) (name : List ℕ) (p : Address) (steps : List (String Global)) → p ≡ child q name → AreSteps p steps
-    → drop (length q) (map string_bytes steps) ≡ spelled_name name ∷ []
-name_spelled q name p steps is spelled =
-    ap (drop (length q)) (spelled ∙ ap (map step_spelled) is) ∙ last_of q
-  where
-    last_of : (r : Address) → drop (length r) (map step_spelled (r ++ Name name ∷ [])) ≡ spelled_name name ∷ []
-    last_of [] = refl
-    last_of (s ∷ r) = last_of r
 
 -- one that changes an array or an inline table in the value of a line
 put_there : (q : Address) (last : Step) (lines : List Line) → IsPutThere lines q last → list_any (holds q) (standing lines) ≡ true
@@ -131,23 +115,6 @@ holds_one profile read near (rename p to) old new done writes either text kinds 
 holds_one profile read near (new_section p) old new done writes either text kinds now at is_after there = absurd there
 holds_one profile read near (new_element p) old new done writes either text kinds now at is_after there = absurd there
 
--- one that puts a name into a table with a header
-pub below_one : (profile : Profile) (read : Read) (c : Change) (old new : Tree) (done : Bool) → WritesEdit profile read c old new done
-    → BelowOne profile read c old new
-below_one profile read (insert p value) old new done writes text kinds now at is_after (q, name, is, not_root, header) =
-    let (steps, rest, spelled, inserts, inside, below) = writes at.whole in
-    let given = is_after.1.value in
-    let lines = at.good.tree.lines in
-    let named : IsNameIn q name p steps = record { at_is = is; steps_is = name_spelled q name p steps is spelled } in
-    let (ts, stands, put) = below given.within given.tree given.is_value q (Name name) is not_root name named (standing lines) at.stands
-    (rules_order lines at.good.good.0) (header_is_alone q lines at.good.good.0 header) in
-    (ts, stands, record { table = q; name = name; is = is; tree = given.tree; is_value = given.is_value; put = put })
-below_one profile read (set p value) old new done writes text kinds now at is_after there = absurd there
-below_one profile read (rename p to) old new done writes text kinds now at is_after there = absurd there
-below_one profile read (remove p) old new done writes text kinds now at is_after there = absurd there
-below_one profile read (new_section p) old new done writes text kinds now at is_after there = absurd there
-below_one profile read (new_element p) old new done writes text kinds now at is_after there = absurd there
-
 -- ---- edits that are not made
 
 no_element : (q r : Address) (i : ℕ) (name : List ℕ) → ¬ (element q i ≡ child r name)
@@ -190,7 +157,7 @@ not_spread profile read places i seen (set p value) old new done writes is may t
     ]
 not_spread profile read places i seen (insert p value) old new done writes is (q, j, at_index) text kinds now at none is_after one =
     elim (one at.good.tree at.good.spelled) [
-      | inl h ↦ no_element q [] j h.0 (sym at_index ∙ h.1)
+      | inl (table, name, at_name, there) ↦ no_element q table j name (sym at_index ∙ at_name)
       | inr h ↦ true≢false (sym (put_is_found profile read p value old new done writes text kinds now at is_after h) ∙ is)
     ]
 not_spread profile read places i seen (rename p to) old new done writes is may text kinds now at none is_after one = may
@@ -253,9 +220,8 @@ same_last (a ∷ xs) (b ∷ ys) x y e =
     (ap₂ (λ u v. u ∷ v) first fronts, lasts)
 
 -- no edit is made yet
-pub none_last : (Is : List Line → Change → Type 0) (Makes : Manner → Change → List Standing → List Standing → Type 0) (profile : Profile) (read : Read) (tree : Tree)
-    → LastMakesAs Is Makes profile read [] tree tree
-none_last Is Makes profile read tree front c is = absurd (no_edit front c (sym is))
+pub none_last : (profile : Profile) (read : Read) (tree : Tree) → HoldsLast profile read [] tree tree
+none_last profile read tree front c is = absurd (no_edit front c (sym is))
 
 written_more : (profile : Profile) (cs : List Change) (c : Change) (manner : Manner) (before mid after : List ℕ) → AreWritten profile cs manner before mid
     → IsWritten profile c manner mid after → AreWritten profile (cs ++ c ∷ []) manner before after
@@ -305,10 +271,9 @@ more_made profile read cs c old tree new all makes text kinds now at lead plain 
     }
 
 -- one more is, of which it is told what it makes
-pub last_made : (Is : List Line → Change → Type 0) (Makes : Manner → Change → List Standing → List Standing → Type 0) (profile : Profile) (read : Read)
-    (cs : List Change) (c : Change) (old mid new : Tree) → MakesAll profile read cs old mid → MakesAs Is Makes profile read c mid new
-    → LastMakesAs Is Makes profile read (cs ++ c ∷ []) old new
-last_made Is Makes profile read cs c old mid new makes one front d is text kinds now last at lead is_after plain between written e spells there =
+pub last_made : (profile : Profile) (read : Read) (cs : List Change) (c : Change) (old mid new : Tree) → MakesAll profile read cs old mid
+    → HoldsOne profile read c mid new → HoldsLast profile read (cs ++ c ∷ []) old new
+last_made profile read cs c old mid new makes one front d is text kinds now last at lead is_after plain between written e spells there =
     let (fronts, edits) = same_last cs front c d is in
     let all = makes text kinds now at (subst (λ es. Lead profile es kinds now) (sym fronts) lead)
     (subst (λ es. ArePlain profile es (manner old) text) (sym fronts) plain) in
@@ -316,11 +281,11 @@ last_made Is Makes profile read cs c old mid new makes one front d is text kinds
     (subst (λ es. AreWritten profile es (manner old) text between) (sym fronts) written) in
     let tree_is : all.at.good.tree ≡ e = one_tree all.at.good.tree e all.after all.at.good.spelled.0 (subst (Spells e) (sym text_is) spells.0) in
     let (ts, stands, changed) = one all.after now last all.at (subst (λ x. IsAfter profile x now last) (sym edits) is_after)
-    (subst₂ (λ (x : Doc) y. Is x.lines y) (sym tree_is) (sym edits) there) in (
+    (subst₂ (λ (x : Doc) y. IsInContainer x.lines y) (sym tree_is) (sym edits) there) in (
       ts,
       subst (λ t. Stands t read new.slots.items ts) (ap (λ (s : Texts). text_of s.source) all.source.texts) stands,
-      subst (λ m. Makes m d (standing e.lines) ts) all.source.mannered
-          (subst₂ (λ (x : Doc) y. Makes (manner mid) y (standing x.lines) ts) tree_is edits changed),
+      subst (λ (m : Manner). ChangesLines m.layout profile d (standing e.lines) ts) all.source.mannered
+          (subst₂ (λ (x : Doc) y. ChangesLines (manner mid).layout profile y (standing x.lines) ts) tree_is edits changed),
     )
 
 -- ---- what holds of one edit, where those before it are made

@@ -1,7 +1,6 @@
 -- An edit of what an array or an inline table in a value holds makes one thing of lines.
 use Rattle.std.proofs.Common.{◌≡◌, ◌∙◌, ap, sym}
 use Rattle.toml_tree.proofs.Proved.{one_value}
-use Rattle.toml_tree.specs.Tree.{Value}
 use Rattle.toml_edits.specs.Edits.{insert, new_element, new_section, remove, rename, set}
 use Rattle.toml_layout.specs.TreeOutlines.{value_outline}
 use Rattle.toml_working.proofs.Proved.{put_lines_are_one, taken_lines_are_one}

@@ -16,8 +16,8 @@ use Rattle.toml_edits.specs.Lists.{Lead}
 use Rattle.toml_layout.specs.declared.texts.Texts.{Texts}
 use Rattle.toml_working.specs.declared.working.Tree.{Tree}
 use Rattle.toml_editor.specs.CertifiedLists.{ArePlain}
-use Rattle.toml_editor.specs.LastTexts.{WritesAs, standing_text}
-use Rattle.toml_editor.specs.Exact.{FollowAll, IsAt, LastMakesAs, MakesAll}
+use Rattle.toml_editor.specs.LastTexts.{ChangesLines, IsInContainer, WritesLast, standing_text}
+use Rattle.toml_editor.specs.Exact.{FollowAll, HoldsLast, IsAt, MakesAll}
 use Rattle.toml_layout.specs.declared.layout.Layout.{Layout}
 use Rattle.toml_working.specs.Manners.{Manner}
 use Rattle.toml_working.specs.Putting.{manner}
@@ -72,14 +72,14 @@ module _ (profile : Profile) (read : Read) (d : Doc) (before : List ℕ) (tree :
         lines_are_written before d.mark.text read new.slots.items last.lines out writes there
         ∙ ap (λ (m : Piece). m.text ++ joined (lines_parts last.lines)) mark ∙ text_is_spelled last all.after all.at.good.spelled.0
 
-    -- where the last edit is of those of which it is told, and those before it are plain, it is the text of what that makes of the lines
-    pub last_written : (Is : List Line → Change → Type 0) (Makes : Manner → Change → List Standing → List Standing → Type 0) → LastMakesAs Is Makes profile read cs tree new → WritesOut before d.mark.text new.slots.items out → WritesAs Is Makes layout profile before cs out
-    last_written Is Makes makes writes = (d, spelled, by)
+    -- where the last edit changes an array or an inline table in a value, and those before it are plain, it is the text of what that makes of the lines
+    pub last_written : HoldsLast profile read cs tree new → WritesOut before d.mark.text new.slots.items out → WritesLast layout profile before cs out
+    last_written makes writes = (d, spelled, by)
       where
         by : (front : List Change) (c : Change) → cs ≡ front ++ c ∷ [] → ArePlain profile front (manner_of layout d.lines) before
             → (between : List ℕ) → AreWritten profile front (manner_of layout d.lines) before between
-            → (e : Doc) → SpellsIn profile e between → Is e.lines c
-            → (ts : List Standing) × Makes (manner_of layout d.lines) c (standing e.lines) ts × (out ≡ e.mark.text ++ standing_text ts)
+            → (e : Doc) → SpellsIn profile e between → IsInContainer e.lines c
+            → (ts : List Standing) × ChangesLines layout profile c (standing e.lines) ts × (out ≡ e.mark.text ++ standing_text ts)
         by front c is plain between written e spells there =
             let first = at old facts in
             let (mid, led, none, is_after) = lead_parted profile front c old now (subst (λ es. Lead profile es old now) is lead) in
@@ -90,7 +90,7 @@ module _ (profile : Profile) (read : Read) (d : Doc) (before : List ℕ) (tree :
             let tree_is : steps.0.tree ≡ e = one_tree steps.0.tree e between steps.0.spelled.0 spells.0 in
             let mark : d.mark ≡ e.mark = sym steps.1 ∙ ap (λ (x : Doc). x.mark) tree_is in (
               ts,
-              subst (λ m. Makes m c (standing e.lines) ts) mannered changed,
+              subst (λ (m : Manner). ChangesLines m.layout profile c (standing e.lines) ts) mannered changed,
               writes read ts (subst (λ t. Stands t read new.slots.items ts) texts stand) ∙ ap (λ (m : Piece). m.text ++ standing_text ts) mark,
             )
 

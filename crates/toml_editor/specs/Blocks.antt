@@ -1,5 +1,5 @@
 -- What one line more, or one fewer, names: the numbers of lines aside, a block in what the others name.
-use Rattle.std.specs.Prelude.{◌≡◌, ℕ, List, [], ◌∷◌, ◌++◌, map}
+use Rattle.std.specs.Prelude.{◌≡◌, List, ◌∷◌, ◌++◌, map}
 use Rattle.toml_tree.specs.Tree.{Value, Line}
 use Rattle.toml_names.specs.declared.mentions.mention.Role.TheVariants.{Valued}
 use Rattle.toml_names.specs.model.Addresses.{Address}
@@ -21,5 +21,5 @@ pub record IsPut (old block new : List Named) : Type 0 where
   pub after : new ≡ front ++ (block ++ back)
 
 -- what a value at an address names: itself, and what is in it
-abbrev pub pair_at : Address → Value → List Named
-pair_at at v = value_named 0 Valued at v ∷ inside 0 at v
+abbrev pub value_block : Address → Value → List Named
+value_block at v = value_named 0 Valued at v ∷ inside 0 at v

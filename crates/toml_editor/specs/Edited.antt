@@ -21,7 +21,7 @@ use Rattle.toml_checker.specs.Documents.{AreDefined, OfTree, OfData}
 use Rattle.toml_checker.specs.Findings.{IsFirstUnmet}
 use Rattle.toml_checker.specs.Outer.{IsOuter}
 use Rattle.toml_checker.specs.Pairs.{IsFirst}
-use Rattle.toml_editor.specs.LastTexts.{WritesLast, WritesBelowHeader}
+use Rattle.toml_editor.specs.LastTexts.{WritesLast}
 use Rattle.toml_editor.specs.PlainTexts.{IsNoPlainList, IsNeitherPlainNorHeld, NoSpreadSet, WritesPlain}
 use Rattle.toml_working.specs.InValues.{Places, IsElementInValue, IsRightInValue}
 use Rattle.toml_working.specs.Tidy.{ArePieces}
@@ -36,8 +36,7 @@ NamesOuter before cs ps = OfTree before (λ d. (i : ℕ) → IsFirst ps i ↔ Is
 
 -- The text is certified to be what the edits make of the first one, by pairs that name the outer protected units. Of plain edits it is
 -- the one that they write in the layout, and none of the edits, where those before it are plain, sets what is spread. Of a last edit behind
--- plain ones, which changes an array or an inline table in the value of a line, or puts a name into a table that has a header, it is told
--- what is written.
+-- plain ones, which changes an array or an inline table in the value of a line, it is told what is written.
 pub record IsEditedWith (layout : Layout) (profile : Profile) (before : List ℕ) (cs : List Change) (after : List ℕ) (ps : List (ℕ × ℕ)) : Type 0
   where
     pub certified : Certified profile before cs after ps
@@ -45,7 +44,6 @@ pub record IsEditedWith (layout : Layout) (profile : Profile) (before : List ℕ
     pub plain : WritesPlain layout profile before cs after
     pub passed : NoSpreadSet layout profile before cs (length cs)
     pub last : WritesLast layout profile before cs after
-    pub below : WritesBelowHeader layout profile before cs after
 
 -- in layout `Plain`
 abbrev pub IsEdited : Profile → List ℕ → List Change → List ℕ → List (ℕ × ℕ) → Type 0

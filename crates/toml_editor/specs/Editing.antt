@@ -10,7 +10,7 @@ use Rattle.toml_units.specs.View.{all_units}
 use Rattle.toml_checker.specs.Findings.{IsFirstUnmet}
 use Rattle.toml_editor.specs.Edited.{AreDefinedOn, IsEditedWith}
 use Rattle.toml_working.specs.Tidy.{ArePieces}
-use Rattle.toml_editor.specs.LastTexts.{WritesLast, WritesBelowHeader}
+use Rattle.toml_editor.specs.LastTexts.{WritesLast}
 use Rattle.toml_editor.specs.PlainTexts.{NoSpreadSet, WritesPlain}
 use Rattle.toml_editor.specs.declared.editing.Edited.{Edited}
 use Rattle.toml_editor.specs.declared.editing.Unjudged.{Unjudged}
@@ -37,7 +37,6 @@ pub record IsMadeText (layout : Layout) (profile : Profile) (before : List ℕ) 
   pub plain : WritesPlain layout profile before cs after
   pub passed : NoSpreadSet layout profile before cs (length cs)
   pub last : WritesLast layout profile before cs after
-  pub below : WritesBelowHeader layout profile before cs after
   pub pieces : ArePieces before after list
 
 -- the same of what the code hands on: its text, and its pieces

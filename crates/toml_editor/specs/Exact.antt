@@ -23,13 +23,12 @@ use Rattle.toml_editor.specs.declared.fault.EditorFault.TheVariants.{Edit, LastE
 use Rattle.toml_working.specs.declared.working.Tree.{Tree}
 use Rattle.toml_working.specs.Becoming.{TreeRenames}
 use Rattle.toml_editor.specs.CertifiedLists.{ArePlain}
-use Rattle.toml_editor.specs.LastTexts.{ChangesLines, IsBelowHeader, IsInContainer, PutsBelowHeader}
+use Rattle.toml_editor.specs.LastTexts.{ChangesLines, IsInContainer}
 use Rattle.toml_layout.specs.declared.tree.Value.{Value as OpenValue}
 use Rattle.toml_layout.specs.Holding.{PutsHeld}
 use Rattle.toml_layout.specs.OpenOutlines.{leaf_text, value as open_outline}
 use Rattle.toml_working.specs.HeldLines.{HoldsLines, TakesFromValue}
 use Rattle.toml_editor.specs.PlainTexts.{IsPlainOrHeld, IsPlainOn, IsSpreadSet}
-use Rattle.toml_working.specs.Manners.{Manner}
 use Rattle.toml_working.specs.Putting.{TreeInserts, manner}
 use Rattle.toml_working.specs.Sections.{TreePutsBelow}
 use Rattle.toml_working.specs.RemovingIn.{RemovesLines}
@@ -94,7 +93,7 @@ WritesInside profile read p text steps old new done = IsText text → (v : Value
     → (ss : List Standing) → Stands (text_of old.texts.source) read old.slots.items ss → AreOrdered ss → list_any (holds q) ss ≡ true
     → HoldsLines p (PutsHeld old.texts.layout steps made) (text_of old.texts.source) read old.slots.items new.slots.items ss done)
 
--- of one of a name below a table
+-- of one of a name into a table that has a header
 abbrev pub WritesBelow : Profile → Read → Address → List ℕ → List (String Global) → Tree → Tree → Type 0
 WritesBelow profile read p text steps old new = IsText text → (v : Value) → IsValueIn profile v text → (q : Address) (last : Step) → p ≡ q ++ last ∷ []
     → TreePutsBelow q p steps (value_outline v) read old new
@@ -106,8 +105,9 @@ pub record WritesRename (read : Read) (p : Address) (to : List ℕ) (old new : T
   pub whole : NoneIsGone new.elements
 
 -- What an edit makes of the working tree, where no element is gone: a `set` puts the value in, if one stands there, and tells whether;
--- an `insert` of a name at the root puts its line in, a `remove` takes out the line of a value whose key is not dotted, a `rename` gives
--- lines the new name. Where an array or an inline table in the value of a line holds it, an `insert` and a `remove` change that.
+-- an `insert` of a name at the root, or in a table that has a header, puts its line in, a `remove` takes out the line of a value whose key
+-- is not dotted, a `rename` gives lines the new name. Where an array or an inline table in the value of a line holds it, an `insert` and a
+-- `remove` change that.
 abbrev pub WritesEdit : Profile → Read → Change → Tree → Tree → Bool → Type 0
 WritesEdit profile read (set p text) old new done = NoneIsGone old.elements → KeepsRest old new × WritesSet profile read p text old new done
 WritesEdit profile read (insert p text) old new done = NoneIsGone old.elements
@@ -154,32 +154,20 @@ PassesAt profile read cs near tree k = (part : Kinds) × Lead profile (take k cs
 abbrev pub PassesAll : Profile → Read → List Change → Kinds → ℕ → Tree → Type 0
 PassesAll profile read cs near n tree = (k : ℕ) → k < n → PassesAt profile read cs near tree k
 
--- of an edit that is one of these: the tree then stands for what that makes of the lines
-abbrev pub MakesAs : (List Line → Change → Type 0) → (Manner → Change → List Standing → List Standing → Type 0) → Profile → Read → Change → Tree → Tree → Type 0
-MakesAs Is Makes profile read c old new = (text : List ℕ) (kinds now : Kinds) → (at : IsAt profile read old text kinds) → IsAfter profile c kinds now
-    → Is at.good.tree.lines c
-    → (ts : List Standing) × Stands (text_of old.texts.source) read new.slots.items ts × Makes (manner old) c (standing at.good.tree.lines) ts
+-- of an edit that changes an array or an inline table in the value of a line: the tree then stands for what that makes of the lines
+abbrev pub HoldsOne : Profile → Read → Change → Tree → Tree → Type 0
+HoldsOne profile read c old new = (text : List ℕ) (kinds now : Kinds) → (at : IsAt profile read old text kinds) → IsAfter profile c kinds now
+    → IsInContainer at.good.tree.lines c
+    → (ts : List Standing) × Stands (text_of old.texts.source) read new.slots.items ts
+    × ChangesLines (manner old).layout profile c (standing at.good.tree.lines) ts
 
 -- the same of the last edit of a list, where those before it are plain
-abbrev pub LastMakesAs : (List Line → Change → Type 0) → (Manner → Change → List Standing → List Standing → Type 0) → Profile → Read → List Change → Tree → Tree → Type 0
-LastMakesAs Is Makes profile read cs old new = (front : List Change) (c : Change) → cs ≡ front ++ c ∷ [] → (text : List ℕ) (kinds mid now : Kinds)
-    → IsAt profile read old text kinds → Lead profile front kinds mid → IsAfter profile c mid now → ArePlain profile front (manner old) text
-    → (between : List ℕ) → AreWritten profile front (manner old) text between → (e : Doc) → SpellsIn profile e between → Is e.lines c
-    → (ts : List Standing) × Stands (text_of old.texts.source) read new.slots.items ts × Makes (manner old) c (standing e.lines) ts
-
--- so it is of edits that change an array or an inline table in the value of a line,
-abbrev pub HoldsOne : Profile → Read → Change → Tree → Tree → Type 0
-HoldsOne profile = MakesAs IsInContainer (λ (m : Manner). ChangesLines m.layout profile) profile
-
 abbrev pub HoldsLast : Profile → Read → List Change → Tree → Tree → Type 0
-HoldsLast profile = LastMakesAs IsInContainer (λ (m : Manner). ChangesLines m.layout profile) profile
-
--- and of those that put a name into a table that has a header
-abbrev pub BelowOne : Profile → Read → Change → Tree → Tree → Type 0
-BelowOne profile = MakesAs IsBelowHeader (PutsBelowHeader profile) profile
-
-abbrev pub BelowLast : Profile → Read → List Change → Tree → Tree → Type 0
-BelowLast profile = LastMakesAs IsBelowHeader (PutsBelowHeader profile) profile
+HoldsLast profile read cs old new = (front : List Change) (c : Change) → cs ≡ front ++ c ∷ [] → (text : List ℕ) (kinds mid now : Kinds)
+    → IsAt profile read old text kinds → Lead profile front kinds mid → IsAfter profile c mid now → ArePlain profile front (manner old) text
+    → (between : List ℕ) → AreWritten profile front (manner old) text between → (e : Doc) → SpellsIn profile e between → IsInContainer e.lines c
+    → (ts : List Standing) × Stands (text_of old.texts.source) read new.slots.items ts
+    × ChangesLines (manner old).layout profile c (standing e.lines) ts
 
 -- the place of an edit is one: it sets no table and no array, and puts in no element
 abbrev pub IsOnePlace : Change → Kinds → Type 0
@@ -191,14 +179,12 @@ IsOnePlace _ kinds = Unit {0}
 pub record DoneOne (profile : Profile) (read : Read) (near : Kinds) (c : Change) (old new : Tree) : Type 0 where
   pub makes : MakesOne profile read c old new
   pub holds : HoldsOne profile read c old new
-  pub below : BelowOne profile read c old new
   pub passes : PassesOne profile read near c old
 
 -- of edits that are made one after the other.
 pub record DoneAll (profile : Profile) (read : Read) (near : Kinds) (cs : List Change) (old new : Tree) : Type 0 where
   pub makes : MakesAll profile read cs old new
   pub holds : HoldsLast profile read cs old new
-  pub below : BelowLast profile read cs old new
   pub passes : PassesAll profile read cs near (length cs) old
 
 -- the edit with this number, where those before it are plain, is neither of these on the text that they write

@@ -1,5 +1,4 @@
--- What is written where, behind plain edits, the last one changes an array or an inline table in the value of a line, or puts a name into
--- a table that has a header.
+-- What is written where, behind plain edits, the last one changes an array or an inline table in the value of a line.
 use Rattle.std.specs.Prelude.{◌≡◌, true, ℕ, List, [], ◌∷◌, ◌++◌, map}
 use Rattle.std.specs.List.{list_any}
 use Rattle.std.specs.declared.alloc.Global.{Global}
@@ -9,8 +8,6 @@ use Rattle.toml_tree.specs.Tree.{Doc, Line, Value}
 use Rattle.toml_tree.specs.declared.profile.Profile.{Profile}
 use Rattle.toml_names.specs.declared.model.address.Step.{Step}
 use Rattle.toml_names.specs.declared.model.address.Step.TheVariants.{Index, Name}
-use Rattle.toml_names.specs.mentions.Mentions.{named}
-use Rattle.toml_names.specs.mentions.Rules.{KeepsRules}
 use Rattle.toml_names.specs.model.Addresses.{Address, child}
 use Rattle.toml_edits.specs.Edits.{Change, insert, remove}
 use Rattle.toml_checker.specs.Documents.{OfTree}
@@ -20,11 +17,7 @@ use Rattle.toml_layout.specs.Holding.{ChangesHolder, PutsHeld, TakesHeld}
 use Rattle.toml_layout.specs.OpenOutlines.{value}
 use Rattle.toml_layout.specs.Outlines.{lines_outlined}
 use Rattle.toml_layout.specs.TreeOutlines.{value_outline}
-use Rattle.toml_working.specs.declared.lines.Sought.TheVariants as sought
 use Rattle.toml_working.specs.HeldLines.{SetsEach, has_container_at}
-use Rattle.toml_working.specs.Manners.{Manner}
-use Rattle.toml_working.specs.Sections.{PutsInSection}
-use Rattle.toml_working.specs.Seeing.{is_sought_line}
 use Rattle.toml_working.specs.Standing.{AreOrdered, Standing, holds, standing}
 use Rattle.toml_working.specs.Written.{manner_of}
 use Rattle.toml_editor.specs.CertifiedLists.{ArePlain}
@@ -76,47 +69,11 @@ IsInContainer lines _ = ⊥
 abbrev pub standing_text : List Standing → List ℕ
 standing_text ss = lines_outlined (map (λ (s : Standing). s.outline) ss)
 
--- on lines the line of a name was put into the section of the table at the address, with the value of this text, and nothing else has changed
-pub record PutsNamed (profile : Profile) (p : Address) (text : List ℕ) (manner : Manner) (old now : List Standing) : Type 0 where
-  pub table : Address
-  pub name : List ℕ
-  pub is : p ≡ child table name
-  pub tree : Value
-  pub is_value : IsValueIn profile tree text
-  pub put : PutsInSection table name (value_outline tree) manner old now
-
--- lines have a header of the table
-abbrev pub HasHeader : List Line → Address → Type 0
-HasHeader lines q = list_any (is_sought_line sought.Header q) (standing lines) ≡ true
-
--- the edit puts a name into a table that is not the root and has a header
-abbrev pub IsBelowHeader : List Line → Change → Type 0
-IsBelowHeader lines (insert p text) = (q : Address) × (name : List ℕ) × (p ≡ child q name) × (¬ (q ≡ [])) × HasHeader lines q
-IsBelowHeader lines _ = ⊥
-
--- what it makes of lines
-abbrev pub PutsBelowHeader : Profile → Manner → Change → List Standing → List Standing → Type 0
-PutsBelowHeader profile manner (insert p text) old now = PutsNamed profile p text manner old now
-PutsBelowHeader profile manner _ old now = ⊥
-
--- Law: what such an edit makes of lines that keep the table rules is one thing.
-abbrev pub OneBelow : Type 0
-OneBelow = (profile : Profile) (manner : Manner) (c : Change) (lines : List Line) (now new : List Standing) → KeepsRules (named lines) → IsBelowHeader lines c
-    → PutsBelowHeader profile manner c (standing lines) now → PutsBelowHeader profile manner c (standing lines) new → now ≡ new
-
--- Where the edits before the last one are plain, and the last one is one of these on the text that they write, the text is the mark and what
--- that makes of the lines.
-abbrev pub WritesAs : (List Line → Change → Type 0) → (Manner → Change → List Standing → List Standing → Type 0) → Layout → Profile → List ℕ → List Change → List ℕ → Type 0
-WritesAs Is Makes layout profile before cs after = OfTree before (λ d. (front : List Change) (c : Change) → cs ≡ front ++ c ∷ []
+-- Where the edits before the last one are plain, and the last one changes an array or an inline table in a value of the text that they write,
+-- the text is the mark and what that makes of the lines.
+abbrev pub WritesLast : Layout → Profile → List ℕ → List Change → List ℕ → Type 0
+WritesLast layout profile before cs after = OfTree before (λ d. (front : List Change) (c : Change) → cs ≡ front ++ c ∷ []
     → ArePlain profile front (manner_of layout d.lines) before
     → (between : List ℕ) → AreWritten profile front (manner_of layout d.lines) before between
-    → (e : Doc) → SpellsIn profile e between → Is e.lines c
-    → (now : List Standing) × Makes (manner_of layout d.lines) c (standing e.lines) now × (after ≡ e.mark.text ++ standing_text now))
-
--- so it is of edits that change an array or an inline table in a value,
-abbrev pub WritesLast : Layout → Profile → List ℕ → List Change → List ℕ → Type 0
-WritesLast layout profile = WritesAs IsInContainer (λ (m : Manner). ChangesLines m.layout profile) layout profile
-
--- and of those that put a name into such a table
-abbrev pub WritesBelowHeader : Layout → Profile → List ℕ → List Change → List ℕ → Type 0
-WritesBelowHeader layout profile = WritesAs IsBelowHeader (PutsBelowHeader profile) layout profile
+    → (e : Doc) → SpellsIn profile e between → IsInContainer e.lines c
+    → (now : List Standing) × ChangesLines layout profile c (standing e.lines) now × (after ≡ e.mark.text ++ standing_text now))

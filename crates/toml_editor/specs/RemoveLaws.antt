@@ -12,22 +12,22 @@ use Rattle.toml_names.specs.model.Data.{Kinds, IsDataOf}
 use Rattle.toml_names.specs.reader.Names.{AreGood}
 use Rattle.toml_edits.specs.After.{IsAfter}
 use Rattle.toml_edits.specs.Edits.{remove}
-use Rattle.toml_editor.specs.Blocks.{IsPut, pair_at, named_plain}
+use Rattle.toml_editor.specs.Blocks.{IsPut, value_block, named_plain}
 use Rattle.toml_working.specs.Removing.{left_behind, remove_lines}
-use Rattle.toml_working.specs.Written.{HasLine}
+use Rattle.toml_working.specs.Written.{HasUndottedLine}
 
 -- Law: the old lines name what the new ones do, and the value.
 abbrev pub RemoveNames : Type 0
-RemoveNames = (p : Address) (lines : List Line) → HasLine lines p → KeepsRules (named lines)
-    → (v : Value) × IsPut (named_plain (remove_lines p lines)) (pair_at p v) (named_plain lines)
+RemoveNames = (p : Address) (lines : List Line) → HasUndottedLine lines p → KeepsRules (named lines)
+    → (v : Value) × IsPut (named_plain (remove_lines p lines)) (value_block p v) (named_plain lines)
 
 -- Law: the table rules and the bound on addresses are kept.
 abbrev pub RemoveGood : Type 0
-RemoveGood = (p : Address) (lines : List Line) → HasLine lines p → AreGood lines → AreGood (remove_lines p lines)
+RemoveGood = (p : Address) (lines : List Line) → HasUndottedLine lines p → AreGood lines → AreGood (remove_lines p lines)
 
 -- Law: the new lines have the data that the edit makes of those of the old.
 abbrev pub RemoveData : Type 0
-RemoveData = (profile : Profile) (p : Address) (lines : List Line) (old after : Kinds) → HasLine lines p → KeepsRules (named lines)
+RemoveData = (profile : Profile) (p : Address) (lines : List Line) (old after : Kinds) → HasUndottedLine lines p → KeepsRules (named lines)
     → IsDataOf (named lines) old → IsDataOf (named (remove_lines p lines)) after → IsAfter profile (remove p) old after
 
 -- Law: the lines are in the forms.
@@ -48,6 +48,6 @@ HasValueAt p earlier (ArrayTableLine ws header tail) = ⊥
 
 -- Law: the line goes; all others stay what they are.
 abbrev pub RemoveKeepsLines : Type 0
-RemoveKeepsLines = (p : Address) (lines : List Line) → HasLine lines p → KeepsRules (named lines)
+RemoveKeepsLines = (p : Address) (lines : List Line) → HasUndottedLine lines p → KeepsRules (named lines)
     → (front : List Line) × (l : Line) × (back : List Line) × (lines ≡ front ++ l ∷ back) × HasValueAt p (named front) l.expr
     × (remove_lines p lines ≡ front ++ (left_behind l ++ back))

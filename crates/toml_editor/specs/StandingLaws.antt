@@ -14,14 +14,18 @@ use Rattle.toml_names.specs.model.Places.{IsNamed}
 use Rattle.toml_working.specs.RenameStanding.{rename_standing}
 use Rattle.toml_working.specs.Renaming.{rename_lines}
 use Rattle.toml_working.specs.InsertStanding.{AreRooted, insert_standing}
-use Rattle.toml_working.specs.Inserting.{insert_lines}
+use Rattle.toml_working.specs.Inserting.{insert_in, insert_lines}
 use Rattle.toml_working.specs.Manners.{Manner}
 use Rattle.toml_working.specs.RemoveStanding.{remove_standing}
 use Rattle.toml_working.specs.Removing.{remove_lines}
 use Rattle.toml_working.specs.Setting.{set_lines}
-use Rattle.toml_working.specs.Standing.{AreOrdered, standing, set_standing, has}
+use Rattle.toml_working.specs.declared.lines.Sought.TheVariants as sought
+use Rattle.toml_working.specs.Sections.{PutsInSection}
+use Rattle.toml_working.specs.Seeing.{AreHeaded, is_sought_line}
+use Rattle.toml_working.specs.Standing.{AreOrdered, Standing, standing, set_standing, has}
+use Rattle.toml_layout.specs.Outlines.{ValueOutline}
 use Rattle.toml_layout.specs.TreeOutlines.{value_outline}
-use Rattle.toml_working.specs.Written.{HasLine, HasValue}
+use Rattle.toml_working.specs.Written.{HasUndottedLine, HasSection, HasValue}
 
 -- Law: places do not count.
 abbrev pub PlacesDoNotStand : Type 0
@@ -59,10 +63,24 @@ abbrev pub InsertStands : Type 0
 InsertStands = (name : List ℕ) (new : Value) (manner : Manner) (lines : List Line) → AreLines lines
     → standing (insert_lines name new manner lines) ≡ insert_standing name (value_outline new) manner (standing lines)
 
+-- Laws: the lines after an `insert` in a table with a header have the new line in the section of the table,
+abbrev pub InsertStandsBelow : Type 0
+InsertStandsBelow = (q : Address) (name : List ℕ) (new : Value) (manner : Manner) (lines : List Line) → AreLines lines → ¬ (q ≡ []) → HasSection lines q
+    → PutsInSection q name (value_outline new) manner (standing lines) (standing (insert_in q name new manner lines))
+
+-- which is one place under the table rules, and no dotted key makes a table that has a header.
+abbrev pub OnePlaceInSection : Type 0
+OnePlaceInSection = (q : Address) (name : List ℕ) (v : ValueOutline) (manner : Manner) (lines : List Line) (now new : List Standing) → ¬ (q ≡ [])
+    → KeepsRules (named lines) → PutsInSection q name v manner (standing lines) now → PutsInSection q name v manner (standing lines) new → now ≡ new
+
+abbrev pub HeaderIsAlone : Type 0
+HeaderIsAlone = (q : Address) (lines : List Line) → KeepsRules (named lines) → list_any (is_sought_line sought.Header q) (standing lines) ≡ true
+    → AreHeaded q (standing lines)
+
 -- Laws: the value of a key at the root is that of a line whose key is not dotted,
 abbrev pub RootPairIsLine : Type 0
 RootPairIsLine = (name : List ℕ) (lines : List Line) → Any (λ m. (m.address ≡ Name name ∷ []) × (m.role ≡ Valued)) (named lines)
-    → HasLine lines (Name name ∷ [])
+    → HasUndottedLine lines (Name name ∷ [])
 
 -- and the lines after a `remove` are what the `remove` makes of the lines.
 abbrev pub RemoveStands : Type 0

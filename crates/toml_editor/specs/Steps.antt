@@ -6,7 +6,7 @@ use Rattle.toml_tree.specs.Profiles.{SpellsIn}
 use Rattle.toml_tree.specs.Spells.{AreLines}
 use Rattle.toml_tree.specs.Tree.{Doc, Line}
 use Rattle.toml_tree.specs.declared.profile.Profile.{Profile}
-use Rattle.toml_names.specs.declared.model.address.Step.TheVariants.{Name}
+use Rattle.toml_names.specs.model.Addresses.{Address, child}
 use Rattle.toml_names.specs.mentions.Mentions.{named}
 use Rattle.toml_names.specs.model.Data.{Kinds, IsDataOf}
 use Rattle.toml_names.specs.model.Documents.{IsDocumentIn}
@@ -15,7 +15,7 @@ use Rattle.toml_edits.specs.After.{IsAfter}
 use Rattle.toml_edits.specs.Edits.{Change, set, insert, rename, remove}
 use Rattle.toml_edits.specs.Faults.{IsFault}
 use Rattle.toml_edits.specs.Lists.{Lead}
-use Rattle.toml_working.specs.Written.{HasLine, HasValue, IsWritten, style_of}
+use Rattle.toml_working.specs.Written.{HasUndottedLine, HasSection, HasValue, IsWritten, style_of}
 use Rattle.toml_working.specs.Manners.{Manner}
 
 -- a text that a good tree of the profile spells, and its data
@@ -30,13 +30,13 @@ abbrev pub GoodTextsAreDocuments : Type 0
 GoodTextsAreDocuments = (profile : Profile) (text : List ℕ) → IsText text
     → ((kinds : Kinds) × IsGoodText profile text kinds) ↔ IsDocumentIn profile text
 
--- the edit is plain on these lines: a `set` where a value stands, a `rename`, an `insert` of a name at the root, a `remove` of a value that a
--- line has by a key that is not dotted
+-- the edit is plain on these lines: a `set` where a value stands, a `rename`, an `insert` of a name at the root or in a table that has a
+-- header, a `remove` of a value that a line has by a key that is not dotted
 abbrev pub IsPlain : List Line → Change → Type 0
 IsPlain lines (set p text) = HasValue lines p
-IsPlain lines (insert p text) = (name : List ℕ) × (p ≡ Name name ∷ [])
+IsPlain lines (insert p text) = (q : Address) × (name : List ℕ) × (p ≡ child q name) × HasSection lines q
 IsPlain lines (rename p to) = Unit {0}
-IsPlain lines (remove p) = HasLine lines p
+IsPlain lines (remove p) = HasUndottedLine lines p
 IsPlain lines _ = ⊥
 
 -- Law: a plain edit that makes something of the data writes a text.

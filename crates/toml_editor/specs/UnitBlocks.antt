@@ -1,26 +1,25 @@
--- Laws of the units after an `insert` at the root and the `remove` of a line: one block more, or one less, between two lines. The newline of a line is
+-- Laws of the units after the `insert` and the `remove` of a line: one block more, or one less, between two lines. The newline of a line is
 -- in no unit. All other units are as they were, with their pieces: a piece of edited lines has the place that it had before.
 use Rattle.std.specs.Prelude.{◌≡◌, ◌+◌, ℕ, List, [], ◌∷◌, ◌++◌, Option, Some, None, length}
 use Rattle.toml_scalar.specs.Spelling.{spelled}
 use Rattle.toml_tree.specs.Bare.{fresh}
 use Rattle.toml_tree.specs.Spells.{joined, value_parts, AreLines}
 use Rattle.toml_tree.specs.Tree.{Piece, Value, Line}
-use Rattle.toml_names.specs.declared.model.address.Step.TheVariants.{Name}
 use Rattle.toml_names.specs.mentions.Mentions.{named}
 use Rattle.toml_names.specs.mentions.Rules.{KeepsRules}
-use Rattle.toml_names.specs.model.Addresses.{Address}
+use Rattle.toml_names.specs.model.Addresses.{Address, child}
 use Rattle.toml_units.specs.declared.unit.UnitKind.TheVariants as kinds
 use Rattle.toml_units.specs.Units.{TextUnit, inside, comment_units, units}
 use Rattle.toml_layout.specs.declared.layout.Layout.TheVariants as layouts
-use Rattle.toml_working.specs.Inserting.{insert_lines}
+use Rattle.toml_working.specs.Inserting.{insert_in}
 use Rattle.toml_working.specs.Manners.{Manner}
 use Rattle.toml_working.specs.Removing.{remove_lines}
 use Rattle.toml_layout.specs.Spacings.{Spacing, plain_spacing}
-use Rattle.toml_working.specs.Written.{HasLine}
+use Rattle.toml_working.specs.Written.{HasUndottedLine, HasSection}
 
 -- a keyval line: itself, what lies in its value, and its comment; to the table in which it stands lead so many steps
-abbrev pub pair_line : Piece → Address → ℕ → Value → Option Piece → List TextUnit
-pair_line piece at base v comment =
+abbrev pub pair_line_units : Piece → Address → ℕ → Value → Option Piece → List TextUnit
+pair_line_units piece at base v comment =
     record { kind = kinds.Line; piece = piece; address = Some at; base = Some base } ∷ (inside at v ++ comment_units kinds.TailComment (Some at) comment)
 
 -- a line of no bytes
@@ -60,12 +59,12 @@ pair_text s name v = s.ws ++ (spelled name ++ (s.before_equals ++ 0x3D ∷ (s.af
 -- Law: the units of the new lines are those of the old ones and those of the new line, which has some whitespace, in layout `Plain` that of
 -- ` = `.
 abbrev pub InsertUnits : Type 0
-InsertUnits = (name : List ℕ) (v : Value) (manner : Manner) (lines : List Line)
+InsertUnits = (q : Address) (name : List ℕ) (v : Value) (manner : Manner) (lines : List Line) → HasSection lines q
     → (s : Spacing) × (manner.layout ≡ layouts.Plain → s ≡ plain_spacing)
-    × IsBlockPut (units lines) (pair_line (fresh (pair_text s name v)) (Name name ∷ []) 0 v None) (units (insert_lines name v manner lines))
+    × IsBlockPut (units lines) (pair_line_units (fresh (pair_text s name v)) (child q name) (length q) v None) (units (insert_in q name v manner lines))
 
 -- Law: the units of the new lines are those of the old ones without those of the line.
 abbrev pub RemoveUnits : Type 0
-RemoveUnits = (p : Address) (lines : List Line) → AreLines lines → HasLine lines p → KeepsRules (named lines)
+RemoveUnits = (p : Address) (lines : List Line) → AreLines lines → HasUndottedLine lines p → KeepsRules (named lines)
     → (piece : Piece) × (base : ℕ) × (v : Value) × (comment : Option Piece) × (length p ≡ base + 1)
-    × IsBlockTaken (units lines) (pair_line piece p base v comment) (units (remove_lines p lines))
+    × IsBlockTaken (units lines) (pair_line_units piece p base v comment) (units (remove_lines p lines))

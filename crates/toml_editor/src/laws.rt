@@ -5,13 +5,13 @@ ghost use Rattle.toml_editor.specs.CarriedLists.{ListIsCarried};
 ghost use Rattle.toml_editor.specs.CertifiedLists.{PartnersCertify, OuterAreNamed, OuterPartnersCertify, PlainListIsCertified};
 ghost use Rattle.toml_editor.specs.ChangedUnits.{SetUnits};
 ghost use Rattle.toml_editor.specs.PlainAnswers.{FirstFaultIsAnswered, FirstSpreadIsAnswered, LongIsAnswered, PlainIsAnswered};
-ghost use Rattle.toml_editor.specs.LastTexts.{OneBelow, OneChange};
+ghost use Rattle.toml_editor.specs.LastTexts.{OneChange};
 ghost use Rattle.toml_editor.specs.InsertLaws.{InsertNames, InsertRules, InsertShort, InsertData, InsertForms, InsertOfProfile, InsertKeepsLines};
 ghost use Rattle.toml_editor.specs.RemoveLaws.{RemoveNames, RemoveGood, RemoveData, RemoveForms, RemoveOfProfile, RemoveKeepsLines};
 ghost use Rattle.toml_editor.specs.RenameLaws.{RenameNames, RenameGood, RenameData, RenameForms, RenameOfProfile, RenameKeepsLine};
 ghost use Rattle.toml_editor.specs.RenamedHeaders.{RenameAlong, RenameAlongElement};
 ghost use Rattle.toml_editor.specs.RenamedUnits.{RenameUnits};
-ghost use Rattle.toml_editor.specs.StandingLaws.{InsertStands, PlacesDoNotStand, RemoveStands, RenameStands, RootComesFirst, RootPairIsLine};
+ghost use Rattle.toml_editor.specs.StandingLaws.{HeaderIsAlone, InsertStands, InsertStandsBelow, OnePlaceInSection, PlacesDoNotStand, RemoveStands, RenameStands, RootComesFirst, RootPairIsLine};
 ghost use Rattle.toml_editor.specs.StandingLaws.{RulesOrder, SetStands, StandingIsValue, ValueStands};
 ghost use Rattle.toml_working.specs.Renaming.{RenameIsOutlined};
 ghost use Rattle.toml_editor.specs.SetLaws.{SetNames, SetRules, SetShort, SetData, SetForms, SetOfProfile, SetWithin, SetElsewhere, SetKeepsLine};
@@ -31,9 +31,9 @@ pub fn sets()
     ensures forms { SetForms }
 {}
 
-/// After an `insert` of a name at the root the lines name what they named, and the name's value. They keep the table rules,
-/// where the root had no such name and the value keeps them, and the bound on addresses, where each address in the value
-/// has at most 99 steps; they have the data that the edit makes, and are in the forms.
+/// After an `insert` of a name at the root, or in a table that has a header, the lines name what they named, and the name's value. They
+/// keep the table rules, where the table had no such name and the value keeps them, and the bound on addresses, where each address in the
+/// value keeps it below the name; they have the data that the edit makes, and are in the forms.
 pub fn inserts()
     ensures names { InsertNames }
     ensures rules { InsertRules }
@@ -42,7 +42,7 @@ pub fn inserts()
     ensures forms { InsertForms }
 {}
 
-/// After a `remove` of a value that a line has, by a key that is not dotted, the lines name what they named, without the value and
+/// After a `remove` of a value that a line has by a key that is not dotted the lines name what they named, without the value and
 /// what is in it. They keep the table rules and the bound on addresses, have the data that the edit makes, and are in the forms.
 pub fn removes()
     ensures names { RemoveNames }
@@ -94,7 +94,7 @@ pub fn kept_lines()
 {}
 
 /// Where the pieces of a tree stand does not count: the edited tree, without its places, is what the edit makes of the tree
-/// without its places.
+/// without its places. Of an `insert` this is said at the root alone.
 pub fn bares()
     ensures set { SetBares }
     ensures insert { InsertBares }
@@ -102,7 +102,7 @@ pub fn bares()
     ensures rename { RenameBares }
 {}
 
-/// The units of edited lines. After an `insert` at the root they are those of before, and between two lines those of the new
+/// The units of edited lines. After an `insert` they are those of before, and between two lines those of the new
 /// line, which has some whitespace, in layout `Plain` that of ` = `; after a `remove` of a line they are those of
 /// before without its own, where a last line leaves one of no bytes. After a `rename` to a name that is free they are those of
 /// before, one by one, of the same kind and base, at the carried address, with the same text unless the edit changes the unit.
@@ -182,10 +182,14 @@ pub fn standing_renamed()
 {}
 
 /// Of lines in the forms those of the root come first, and the lines after an `insert` of a name there are what it makes of
-/// the lines, by what finds them.
+/// the lines, by what finds them. After one in a table that has a header they have the new line in the section of the table: this is one
+/// place under the table rules, and no dotted key makes such a table.
 pub fn standing_inserted()
     ensures root { RootComesFirst }
     ensures insert { InsertStands }
+    ensures below { InsertStandsBelow }
+    ensures place { OnePlaceInSection }
+    ensures alone { HeaderIsAlone }
 {}
 
 /// The value of a key at the root is that of a line whose key is not dotted, and the lines after a `remove` of a line are what the
@@ -213,9 +217,8 @@ pub fn written_out()
     ensures text { TextIsWritten }
 {}
 
-/// What an edit makes that changes an array or an inline table in the value of a line, or puts a name into a table that has a header, is one
-/// thing in a layout, of lines that are as the table rules have them: so it has one text.
+/// What an edit makes that changes an array or an inline table in the value of a line is one thing in a layout, of lines that are as the
+/// table rules have them: so it has one text.
 pub fn one_change()
-    ensures held { OneChange }
-    ensures below { OneBelow }
+    ensures { OneChange }
 {}

@@ -15,7 +15,7 @@ use Rattle.toml_tree.specs.Tree as tree
 use Rattle.toml_units.specs.declared.unit.Unit.{Unit as ReadUnit}
 use Rattle.toml_working.specs.declared.lines.Slot.{Slot}
 use Rattle.toml_working.specs.declared.lines.Sought.{Sought}
-use Rattle.toml_working.specs.declared.lines.Sought.TheVariants as kinds
+use Rattle.toml_working.specs.declared.lines.Sought.TheVariants as sought
 use Rattle.toml_working.specs.declared.working.Position.{Position}
 use Rattle.toml_working.specs.declared.working.TablePlace.{TablePlace}
 use Rattle.toml_working.specs.declared.working.TablePlace.TheVariants as places
@@ -146,11 +146,11 @@ below_is p None own h = (h, refl)
 
 pub table_holds_none : (p : Address) (read : Read) (slots : List Slot) (place : TablePlace) → IsTableLine p read slots place
     → StandAlone (slots_standing read slots) → list_any (holds p) (slots_standing read slots) ≡ false
-table_holds_none p read slots (places.Header at) h alone = sought_alone kinds.Header p read slots at (λ f. heads_is p f.base f.address) h alone
-table_holds_none p read slots (places.Dotted at) h alone = sought_alone kinds.Dotted p read slots at (λ f. dotted_is p f.base f.address) h alone
-table_holds_none p read slots (places.Implicit at) h alone = sought_alone kinds.HeaderBelow p read slots at (λ f. below_is p f.base f.address) h alone
+table_holds_none p read slots (places.Header at) h alone = sought_alone sought.Header p read slots at (λ f. heads_is p f.base f.address) h alone
+table_holds_none p read slots (places.Dotted at) h alone = sought_alone sought.Dotted p read slots at (λ f. dotted_is p f.base f.address) h alone
+table_holds_none p read slots (places.Implicit at) h alone = sought_alone sought.HeaderBelow p read slots at (λ f. below_is p f.base f.address) h alone
 
-pub line_holds_none : (p : Address) (units : List ReadUnit) (slots : List Slot) (slot : ℕ) (r : Option Position) → FindsLine kinds.HeaderBelow p units slots slot r → is_some r ≡ true → HoldsNone p units slots
+pub line_holds_none : (p : Address) (units : List ReadUnit) (slots : List Slot) (slot : ℕ) (r : Option Position) → FindsLine sought.HeaderBelow p units slots slot r → is_some r ≡ true → HoldsNone p units slots
 line_holds_none p units slots slot None h is not_root lines = cc
 line_holds_none p units slots slot (Some at) h is not_root lines = table_holds_none p (read_by units lines) slots (places.Implicit at) (h lines)
 
@@ -211,10 +211,10 @@ sought_there what p read slots at h = by (line_at read slots at) refl h
 
 -- a line whose dotted key makes the table is none of headed lines
 pub never_dotted : (p : Address) (units : List ReadUnit) (slots : List Slot) (slot : ℕ) (r : Option Position) (at : Position)
-    → FindsLine kinds.Dotted p units slots slot r → r ≡ Some at → (lines : List tree.Line) → AreHeaded p (slots_standing (read_by units lines) slots) → ⊥
+    → FindsLine sought.Dotted p units slots slot r → r ≡ Some at → (lines : List tree.Line) → AreHeaded p (slots_standing (read_by units lines) slots) → ⊥
 never_dotted p units slots slot r at finds is lines headed =
-    let found = subst (FindsLine kinds.Dotted p units slots slot) is finds lines in
-    true≢false (sym (sought_there kinds.Dotted p (read_by units lines) slots at found) ∙ headed.no_dotted)
+    let found = subst (FindsLine sought.Dotted p units slots slot) is finds lines in
+    true≢false (sym (sought_there sought.Dotted p (read_by units lines) slots at found) ∙ headed.no_dotted)
 
 -- the place that is found is that of a header
 pub met_in : (o : Option TablePlace) (X : Type 0) → MatchOption o X IsHeaderPlace → IfSome o IsHeaderPlace
@@ -223,11 +223,11 @@ met_in (Some place) X h = h
 
 -- a header stands in some slot
 pub header_somewhere : (p : Address) (read : Read) (slots : List Slot) (n : ℕ) → length slots ≤ n → AreHeaded p (slots_standing read slots)
-    → list_any (is_sought_line kinds.Header p) (slots_standing read (take n slots)) ≡ false → ⊥
+    → list_any (is_sought_line sought.Header p) (slots_standing read (take n slots)) ≡ false → ⊥
 header_somewhere p read slots n past headed none =
-    true≢false (sym headed.header ∙ ap (λ xs. list_any (is_sought_line kinds.Header p) (slots_standing read xs)) (sym (take_all n slots past)) ∙ none)
+    true≢false (sym headed.header ∙ ap (λ xs. list_any (is_sought_line sought.Header p) (slots_standing read xs)) (sym (take_all n slots past)) ∙ none)
 
-pub holder_of_line : (p : Address) (units : List ReadUnit) (slots : List Slot) (slot : ℕ) (r : Option Position) → FindsLine kinds.Holder p units slots slot r → FindsHolder p units slots r
+pub holder_of_line : (p : Address) (units : List ReadUnit) (slots : List Slot) (slot : ℕ) (r : Option Position) → FindsLine sought.Holder p units slots slot r → FindsHolder p units slots r
 holder_of_line p units slots slot None h lines = tt
 holder_of_line p units slots slot (Some at) h lines = h lines
 

@@ -19,7 +19,7 @@ use Rattle.toml_layout.specs.Outlines.{Braced, ExprOutline, Header, Listed, Noth
 use Rattle.toml_working.specs.declared.lines.Slot.{Slot}
 use Rattle.toml_working.specs.declared.working.Position.{Position}
 use Rattle.toml_working.specs.Changing.{ChangesAs, ChangesSlots, HoldsStanding, SetsThere}
-use Rattle.toml_working.specs.declared.lines.Sought.TheVariants as kinds
+use Rattle.toml_working.specs.declared.lines.Sought.TheVariants as sought
 use Rattle.toml_working.specs.HeldLines.{HeldIsInside, HoldsLines, ParentIsHeld, SetsEach, expr_has_container, has_container_at, holds_inside}
 use Rattle.toml_working.specs.Seeing.{HoldsNone, IsSoughtAt, line_at, steps_of, steps_to}
 use Rattle.toml_working.specs.Standing.{Standing, Read, AreOrdered, IsApart, StandAlone, holds, leads_to, slot_standing, slots_standing}
@@ -206,7 +206,7 @@ inside_here p front s back here alone there =
     ∙ ap₂ (λ a b. a || (holds_inside p s || b)) (none_inside p front others.0) (none_inside p back others.1) ∙ or-false (holds_inside p s)) ∙ there
 
 -- so a line that is found has fewer steps than the address
-pub fewer_steps : (p : Address) (text : List ℕ) (read : Read) (slots : List Slot) (at : Position) (ss : List Standing) → IsSoughtAt kinds.Holder p read slots at
+pub fewer_steps : (p : Address) (text : List ℕ) (read : Read) (slots : List Slot) (at : Position) (ss : List Standing) → IsSoughtAt sought.Holder p read slots at
     → Stands text read slots ss → AreOrdered ss → list_any (holds_inside p) ss ≡ true → steps_of (line_at read slots at) < length p
 fewer_steps p text read slots at ss found stands ordered there =
     let (slot, s, slot_is, placed, line_is, leads) = holder_at read slots at p found in

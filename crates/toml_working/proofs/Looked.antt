@@ -15,7 +15,7 @@ use Rattle.toml_layout.specs.declared.tree.Leaf.{Leaf}
 use Rattle.toml_layout.specs.declared.tree.OpenLine.{OpenLine}
 use Rattle.toml_working.specs.declared.working.Position.{Position}
 use Rattle.toml_names.specs.model.Addresses.{Address}
-use Rattle.toml_working.specs.FirstKeys.{alike_before, spacing_after, spacing_like, spacing_put}
+use Rattle.toml_working.specs.FirstKeys.{like_before, spacing_after, spacing_like, spacing_put}
 use Rattle.toml_working.specs.InsertStanding.{is_bare, new_assign, new_outline, spaced_by, spacing_behind, spacing_of}
 use Rattle.toml_working.specs.Manners.{Manner}
 use Rattle.toml_working.specs.Placing.{is_header, lines_before}
@@ -61,7 +61,7 @@ after_pair front None (Some a) l bare head = cc
 
 -- and a header
 pub after_header : (front : List Standing) (base : Option ℕ) (own : Option Address) (l : LineOutline) → is_header base own ≡ true
-    → spacing_after front base own l ≡ spacing_like l.ws (alike_before l.ws front)
+    → spacing_after front base own l ≡ spacing_like l.ws (like_before l.ws front)
 after_header front (Some n) own l is = cc
 after_header front None None l is = cc
 after_header front None (Some a) l is = refl

@@ -11,10 +11,10 @@ use Rattle.toml_units.specs.declared.unit.Unit.{Unit as ReadUnit}
 use Rattle.toml_working.specs.declared.lines.Seen.{Seen}
 use Rattle.toml_working.specs.declared.lines.Slot.{Slot}
 use Rattle.toml_working.specs.declared.working.Position.{Position}
-use Rattle.toml_working.specs.FirstKeys.{alike_before, fits_behind, found_behind, last_alike}
+use Rattle.toml_working.specs.FirstKeys.{like_before, fits_behind, found_behind, last_like}
 use Rattle.toml_working.specs.InsertStanding.{spaced_by, spacing_of}
 use Rattle.toml_layout.specs.Looks.{equals_in}
-use Rattle.toml_working.specs.LookingUp.{CountsLines, GoesUp, GoesUpLine, GoesUpSlot, GoneUp, IsAlikeAt, IsInSlot, IsPlaceOf, first_of, first_pair_at}
+use Rattle.toml_working.specs.LookingUp.{CountsLines, GoesUp, GoesUpLine, GoesUpSlot, GoneUp, IsLikeAt, IsInSlot, IsPlaceOfLine, line_or, last_pair_from}
 use Rattle.toml_working.specs.Placing.{IsPair, is_header, lines_before}
 use Rattle.toml_working.specs.Seeing.{SeesAt, found, line_at, read_by, seen}
 use Rattle.toml_working.specs.Standing.{Standing, Read, slot_standing}
@@ -23,17 +23,17 @@ use Rattle.toml_working.proofs.Put.{stays_so}
 
 -- ---- what is found
 
-either_way : (fits : Bool) (o : Option Standing) → cond fits (first_of None o) o ≡ o
+either_way : (fits : Bool) (o : Option Standing) → cond fits (line_or None o) o ≡ o
 either_way true o = refl
 either_way false o = refl
 
-still_first : (line : Option Standing) (s : Standing) (found : Option Standing) → first_of line (Some s) ≡ first_of (first_of line (Some s)) found
+still_first : (line : Option Standing) (s : Standing) (found : Option Standing) → line_or line (Some s) ≡ line_or (line_or line (Some s)) found
 still_first None s found = refl
 still_first (Some t) s found = refl
 
 -- what lines in front come to
 split_alike : (ws : List ℕ) (front : List Standing) (fits : Bool) (found : Option Standing)
-    → (here : Bool) × (so_far : Option Standing) × ((back : List Standing) → last_alike ws fits found (front ++ back) ≡ last_alike ws here so_far back)
+    → (here : Bool) × (so_far : Option Standing) × ((back : List Standing) → last_like ws fits found (front ++ back) ≡ last_like ws here so_far back)
 split_alike ws [] fits found = (fits, found, λ back. refl)
 split_alike ws (s ∷ front) fits found = split_alike ws front (fits_behind fits (bytes_eq s.outline.ws ws) s.base s.address) (found_behind fits found s s.base)
 
@@ -43,30 +43,30 @@ module _ (ws : List ℕ) (read : Read) (slots : List Slot) (all above : List Sta
   one_more = up.is ∙ append_assoc above (s ∷ []) up.passed
 
   -- a line that is no header
-  pub past_line : (at : Position) → line_at read slots at ≡ Some s → is_header s.base s.address ≡ false → GoneUp ws read slots all above (first_pair_at s.base at last)
+  pub past_line : (at : Position) → line_at read slots at ≡ Some s → is_header s.base s.address ≡ false → GoneUp ws read slots all above (last_pair_from s.base at last)
   past_line at there head = by s.base refl s.address refl head
     where
       by : (base : Option ℕ) → s.base ≡ base → (own : Option Address) → s.address ≡ own → is_header base own ≡ false
-          → GoneUp ws read slots all above (first_pair_at base at last)
+          → GoneUp ws read slots all above (last_pair_from base at last)
       by (Some n) is own own_is not = record {
         passed = s ∷ up.passed;
         is = one_more;
-        line = first_of up.line (Some s);
+        line = line_or up.line (Some s);
         there = place last up.there;
         so_far = λ fits found.
-            ap₂ (λ b f. last_alike ws b f up.passed)
+            ap₂ (λ b f. last_like ws b f up.passed)
             (ap₂ (fits_behind fits (bytes_eq s.outline.ws ws)) is own_is)
             (ap (found_behind fits found s) is)
             ∙ up.so_far fits (cond fits (Some s) found)
             ∙ chosen fits found;
       }
         where
-          place : (o : Option Position) → IsPlaceOf read slots up.line o → IsPlaceOf read slots (first_of up.line (Some s)) (first_pair_at (Some n) at o)
-          place None none = (s, there, ap (λ l. first_of l (Some s)) none)
-          place (Some p) (t, here, line_is) = (t, here, ap (λ l. first_of l (Some s)) line_is)
+          place : (o : Option Position) → IsPlaceOfLine read slots up.line o → IsPlaceOfLine read slots (line_or up.line (Some s)) (last_pair_from (Some n) at o)
+          place None none = (s, there, ap (λ l. line_or l (Some s)) none)
+          place (Some p) (t, here, line_is) = (t, here, ap (λ l. line_or l (Some s)) line_is)
 
           chosen : (fits : Bool) (found : Option Standing)
-              → cond fits (first_of up.line (cond fits (Some s) found)) (cond fits (Some s) found) ≡ cond fits (first_of (first_of up.line (Some s)) found) found
+              → cond fits (line_or up.line (cond fits (Some s) found)) (cond fits (Some s) found) ≡ cond fits (line_or (line_or up.line (Some s)) found) found
           chosen true found = still_first up.line s found
           chosen false found = refl
       by None is None own_is not = record {
@@ -75,28 +75,28 @@ module _ (ws : List ℕ) (read : Read) (slots : List Slot) (all above : List Sta
         line = up.line;
         there = place last up.there;
         so_far = λ fits found.
-            ap₂ (λ b f. last_alike ws b f up.passed)
+            ap₂ (λ b f. last_like ws b f up.passed)
             (ap₂ (fits_behind fits (bytes_eq s.outline.ws ws)) is own_is)
             (ap (found_behind fits found s) is)
             ∙ up.so_far fits found;
       }
         where
-          place : (o : Option Position) → IsPlaceOf read slots up.line o → IsPlaceOf read slots up.line (first_pair_at None at o)
+          place : (o : Option Position) → IsPlaceOfLine read slots up.line o → IsPlaceOfLine read slots up.line (last_pair_from None at o)
           place None none = none
           place (Some p) here = here
       by None is (Some a) own_is not = cc
 
   -- behind a header
   header_alike : is_header s.base s.address ≡ true → (fits : Bool) (found : Option Standing)
-      → last_alike ws fits found (s ∷ up.passed) ≡ cond (bytes_eq s.outline.ws ws) (first_of up.line found) found
+      → last_like ws fits found (s ∷ up.passed) ≡ cond (bytes_eq s.outline.ws ws) (line_or up.line found) found
   header_alike head fits found = by s.base refl s.address refl head
     where
       by : (base : Option ℕ) → s.base ≡ base → (own : Option Address) → s.address ≡ own → is_header base own ≡ true
-          → last_alike ws fits found (s ∷ up.passed) ≡ cond (bytes_eq s.outline.ws ws) (first_of up.line found) found
+          → last_like ws fits found (s ∷ up.passed) ≡ cond (bytes_eq s.outline.ws ws) (line_or up.line found) found
       by (Some n) is own own_is h = cc
       by None is None own_is h = cc
       by None is (Some a) own_is h =
-          ap₂ (λ b f. last_alike ws b f up.passed)
+          ap₂ (λ b f. last_like ws b f up.passed)
           (ap₂ (fits_behind fits (bytes_eq s.outline.ws ws)) is own_is)
           (ap (found_behind fits found s) is)
           ∙ up.so_far (bytes_eq s.outline.ws ws) found
@@ -109,12 +109,12 @@ module _ (ws : List ℕ) (read : Read) (slots : List Slot) (all above : List Sta
     line = None;
     there = refl;
     so_far = λ fits found.
-        header_alike head fits found ∙ ap (λ l. cond (bytes_eq s.outline.ws ws) (first_of l found) found) line_is
+        header_alike head fits found ∙ ap (λ l. cond (bytes_eq s.outline.ws ws) (line_or l found) found) line_is
         ∙ either_way (bytes_eq s.outline.ws ws) found ∙ sym (either_way fits found);
   }
     where
       line_is : up.line ≡ None
-      line_is = subst (IsPlaceOf read slots up.line) none up.there
+      line_is = subst (IsPlaceOfLine read slots up.line) none up.there
 
   -- or that begins with other whitespace
   pub past_other : is_header s.base s.address ≡ true → bytes_eq s.outline.ws ws ≡ false → GoneUp ws read slots all above None
@@ -124,19 +124,19 @@ module _ (ws : List ℕ) (read : Read) (slots : List Slot) (all above : List Sta
     line = None;
     there = refl;
     so_far = λ fits found.
-        header_alike head fits found ∙ ap (λ b. cond b (first_of up.line found) found) other ∙ sym (either_way fits found);
+        header_alike head fits found ∙ ap (λ b. cond b (line_or up.line found) found) other ∙ sym (either_way fits found);
   }
 
   -- the header of the section that is looked for
-  pub found_up : is_header s.base s.address ≡ true → bytes_eq s.outline.ws ws ≡ true → (at : Position) → last ≡ Some at → IsAlikeAt ws read slots all at
+  pub found_up : is_header s.base s.address ≡ true → bytes_eq s.outline.ws ws ≡ true → (at : Position) → last ≡ Some at → IsLikeAt ws read slots all at
   found_up head same at is =
-      let (t, there, line_is) = subst (IsPlaceOf read slots up.line) is up.there in (
+      let (t, there, line_is) = subst (IsPlaceOfLine read slots up.line) is up.there in (
         t,
         there,
         λ fits found.
             let (here, so_far, parts) = split_alike ws above fits found in
-            ap (last_alike ws fits found) one_more ∙ parts (s ∷ up.passed) ∙ header_alike head here so_far
-            ∙ ap (λ b. cond b (first_of up.line so_far) so_far) same ∙ ap (λ l. first_of l so_far) line_is,
+            ap (last_like ws fits found) one_more ∙ parts (s ∷ up.passed) ∙ header_alike head here so_far
+            ∙ ap (λ b. cond b (line_or up.line so_far) so_far) same ∙ ap (λ l. line_or l so_far) line_is,
       )
 
 -- ---- a slot
@@ -194,28 +194,28 @@ not_begun ws read slots all = record {
 
 -- the line that was found
 pub found_is : (ws : List ℕ) (read : Read) (slots : List Slot) (all above : List Standing) (result : Option Position) → GoesUp ws read slots all above true result
-    → IsPlaceOf read slots (alike_before ws all) result
-found_is ws read slots all above result (at, is, (s, there, alike)) = subst (IsPlaceOf read slots (alike_before ws all)) (sym is) (s, there, alike (length ws == 0) None)
+    → IsPlaceOfLine read slots (like_before ws all) result
+found_is ws read slots all above result (at, is, (s, there, alike)) = subst (IsPlaceOfLine read slots (like_before ws all)) (sym is) (s, there, alike (length ws == 0) None)
 
 -- where all lines are passed, it is that of the root's section, if this is one of those
 pub top_is : (ws : List ℕ) (read : Read) (slots : List Slot) (all : List Standing) (last : Option Position) → GoneUp ws read slots all [] last
-    → (empty : Bool) → IsTrue empty ↔ (ws ≡ []) → IsPlaceOf read slots (alike_before ws all) (cond empty last None)
+    → (empty : Bool) → IsTrue empty ↔ (ws ≡ []) → IsPlaceOfLine read slots (like_before ws all) (cond empty last None)
 top_is ws read slots all last up empty tells = by ws refl empty tells
   where
-    whole : alike_before ws all ≡ cond (length ws == 0) (first_of up.line None) None
-    whole = ap (last_alike ws (length ws == 0) None) up.is ∙ up.so_far (length ws == 0) None
+    whole : like_before ws all ≡ cond (length ws == 0) (line_or up.line None) None
+    whole = ap (last_like ws (length ws == 0) None) up.is ∙ up.so_far (length ws == 0) None
 
-    only : (line : Option Standing) → first_of line None ≡ line
+    only : (line : Option Standing) → line_or line None ≡ line
     only None = refl
     only (Some s) = refl
 
-    by : (text : List ℕ) → ws ≡ text → (b : Bool) → IsTrue b ↔ (ws ≡ []) → IsPlaceOf read slots (alike_before ws all) (cond b last None)
-    by [] is true h = subst (λ l. IsPlaceOf read slots l last) (sym (whole ∙ ap (λ t. cond (length t == 0) (first_of up.line None) None) is ∙ only up.line)) up.there
+    by : (text : List ℕ) → ws ≡ text → (b : Bool) → IsTrue b ↔ (ws ≡ []) → IsPlaceOfLine read slots (like_before ws all) (cond b last None)
+    by [] is true h = subst (λ l. IsPlaceOfLine read slots l last) (sym (whole ∙ ap (λ t. cond (length t == 0) (line_or up.line None) None) is ∙ only up.line)) up.there
     by [] is false h = let never : IsTrue false = h.1 is in absurd (true≢false (sym never))
     by (x ∷ xs) is true h = let e : ws ≡ [] = h.0 refl in cc
     by (x ∷ xs) is false h =
-        whole ∙ ap (λ t. cond (length t == 0) (first_of up.line None) None) is
-        ∙ ap (λ b. cond b (first_of up.line None) None) (never_zero (length xs))
+        whole ∙ ap (λ t. cond (length t == 0) (line_or up.line None) None) is
+        ∙ ap (λ b. cond b (line_or up.line None) None) (never_zero (length xs))
 
 -- one line of a slot more
 pub one_up : (ws : List ℕ) (read : Read) (slots : List Slot) (place : Position) (here : ℕ) → 0 < here → here ≤ place.index → (last next : Option Position) (found : Bool)
@@ -263,18 +263,18 @@ top_of ws read slots all last here low up =
 
 pub top_root : (ws : List ℕ) (read : Read) (slots : List Slot) (all : List Standing) (last : Option Position) (here : ℕ) → here ≤ 0
     → GoneUp ws read slots all (lines_before read slots here 0) last → (empty : Bool) → IsTrue empty ↔ (ws ≡ []) → empty ≡ true
-    → IsPlaceOf read slots (alike_before ws all) last
+    → IsPlaceOfLine read slots (like_before ws all) last
 top_root ws read slots all last here low up empty tells is =
-    subst (λ b. IsPlaceOf read slots (alike_before ws all) (cond b last None)) is (top_is ws read slots all last (top_of ws read slots all last here low up) empty tells)
+    subst (λ b. IsPlaceOfLine read slots (like_before ws all) (cond b last None)) is (top_is ws read slots all last (top_of ws read slots all last here low up) empty tells)
 
 pub top_other : (ws : List ℕ) (read : Read) (slots : List Slot) (all : List Standing) (last : Option Position) (here : ℕ) → here ≤ 0
     → GoneUp ws read slots all (lines_before read slots here 0) last → (empty : Bool) → IsTrue empty ↔ (ws ≡ []) → empty ≡ false
-    → alike_before ws all ≡ None
+    → like_before ws all ≡ None
 top_other ws read slots all last here low up empty tells is =
-    subst (λ b. IsPlaceOf read slots (alike_before ws all) (cond b last None)) is (top_is ws read slots all last (top_of ws read slots all last here low up) empty tells)
+    subst (λ b. IsPlaceOfLine read slots (like_before ws all) (cond b last None)) is (top_is ws read slots all last (top_of ws read slots all last here low up) empty tells)
 
 -- what is found has a key and a value
-alike_is : (ws : List ℕ) (ss : List Standing) (fits : Bool) (found : Option Standing) (t : Standing) → last_alike ws fits found ss ≡ Some t → (found ≡ Some t) ⊎ IsPair t
+alike_is : (ws : List ℕ) (ss : List Standing) (fits : Bool) (found : Option Standing) (t : Standing) → last_like ws fits found ss ≡ Some t → (found ≡ Some t) ⊎ IsPair t
 alike_is ws [] fits found t is = inl is
 alike_is ws (s ∷ ss) fits found t is =
     elim (alike_is ws ss (fits_behind fits (bytes_eq s.outline.ws ws) s.base s.address) (found_behind fits found s s.base) t is) [
@@ -287,7 +287,7 @@ alike_is ws (s ∷ ss) fits found t is =
     by (Some n) base_is false here = inl here
     by (Some n) base_is true here = inr (n, ap (λ (x : Standing). x.base) (sym (same_Some s t here)) ∙ base_is)
 
-pub alike_pair : (ws : List ℕ) (front : List Standing) (t : Standing) → alike_before ws front ≡ Some t → IsPair t
+pub alike_pair : (ws : List ℕ) (front : List Standing) (t : Standing) → like_before ws front ≡ Some t → IsPair t
 alike_pair ws front t is = elim (alike_is ws front (length ws == 0) None t is) [
   | inl none ↦ absurd (none-some t none)
   | inr pair ↦ pair

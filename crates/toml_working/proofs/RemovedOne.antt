@@ -9,7 +9,7 @@ use Rattle.toml_names.specs.model.Addresses.{Address}
 use Rattle.toml_text.specs.Source.{text_of}
 use Rattle.toml_tree.specs.Spells.{EachIs}
 use Rattle.toml_working.specs.declared.lines.Slot.{Slot}
-use Rattle.toml_working.specs.declared.lines.Sought.TheVariants as kinds
+use Rattle.toml_working.specs.declared.lines.Sought.TheVariants as sought
 use Rattle.toml_working.specs.declared.working.Position.{Position}
 use Rattle.toml_working.specs.declared.working.Tree.{Tree}
 use Rattle.toml_working.specs.RemoveStanding.{is_pair, is_undotted_at, is_undotted_pair, is_value_at, left_standing, remove_standing, without}
@@ -124,7 +124,7 @@ record IsPlaced (p : Address) (read : Read) (slots : List Slot) (at : Position) 
   ahead : EachIs (λ t. is_below p t ≡ false) (before ++ front)
   after : EachIs (λ t. is_below p t ≡ false) (back ++ behind)
 
-is_placed : (p : Address) (read : Read) (slots : List Slot) (at : Position) (ss : List Standing) → IsSoughtAt kinds.Holder p read slots at
+is_placed : (p : Address) (read : Read) (slots : List Slot) (at : Position) (ss : List Standing) → IsSoughtAt sought.Holder p read slots at
     → slots_standing read slots ≡ ss → StandAlone ss → list_any (is_pair p) ss ≡ true → IsPlaced p read slots at ss
 is_placed p read slots at ss found are alone there =
     let (slot, s, slot_is, placed, line_is, leads) = holder_at read slots at p found in
@@ -196,7 +196,7 @@ placed_goes p read old now at ss t h put left =
 
 pub holder_goes : (p : Address) (read : Read) (old now : Tree) (at : Position) → KeepsRest old now
     → (IsAtMostOneBelow p read old.slots.items at → LeavesSlots p read.units at.slot old.slots.items now.slots.items)
-    → IsSoughtAt kinds.Holder p read old.slots.items at → RemovesLines p read old now
+    → IsSoughtAt sought.Holder p read old.slots.items at → RemovesLines p read old now
 holder_goes p read old now at rest leaves found ss stands ordered there =
     let text = text_of old.texts.source in
     let h = is_placed p read old.slots.items at ss found stands.are ordered.alone (undotted_is_pair p ss there) in
@@ -214,7 +214,7 @@ holder_goes p read old now at rest leaves found ss stands ordered there =
 
 -- the line at the place does not hold it in its value
 pub never_inside : (p : Address) (read : Read) (old now : Tree) (at : Position) (steps : ℕ) → steps ≡ steps_of (line_at read old.slots.items at) → steps < length p
-    → IsSoughtAt kinds.Holder p read old.slots.items at → RemovesLines p read old now
+    → IsSoughtAt sought.Holder p read old.slots.items at → RemovesLines p read old now
 never_inside p read old now at steps counts low found ss stands ordered there =
     let h = is_placed p read old.slots.items at ss found stands.are ordered.alone (undotted_is_pair p ss there) in
     let same : steps ≡ length p = counts ∙ ap steps_of h.placed ∙ ap steps_to (pair_address p h.line.base h.line.address h.pair) in

@@ -16,7 +16,7 @@ use Rattle.toml_layout.specs.Outlines.{ValueOutline}
 use Rattle.toml_layout.specs.declared.texts.Texts.{Texts}
 use Rattle.toml_working.specs.declared.lines.Seen.{Seen}
 use Rattle.toml_working.specs.declared.lines.Slot.{Slot}
-use Rattle.toml_working.specs.declared.lines.Sought.TheVariants as kinds
+use Rattle.toml_working.specs.declared.lines.Sought.TheVariants as sought
 use Rattle.toml_working.specs.declared.working.Position.{Position}
 use Rattle.toml_working.specs.FirstKeys.{spacing_put}
 use Rattle.toml_working.specs.InsertStanding.{has_pair, line_put}
@@ -58,18 +58,18 @@ end_of_last q units slots from (Some at) finds lines = record { start = from; la
 
 -- ---- the line is put in
 
-header_here : (q : Address) (read : Read) (slots : List Slot) (at : Position) → IsSoughtAt kinds.Header q read slots at
-    → (h : Standing) × (line_at read slots at ≡ Some h) × (is_sought_line kinds.Header q h ≡ true)
-header_here q read slots at sought = by (line_at read slots at) refl sought
+header_here : (q : Address) (read : Read) (slots : List Slot) (at : Position) → IsSoughtAt sought.Header q read slots at
+    → (h : Standing) × (line_at read slots at ≡ Some h) × (is_sought_line sought.Header q h ≡ true)
+header_here q read slots at found = by (line_at read slots at) refl found
   where
-    by : (o : Option Standing) → line_at read slots at ≡ o → option_map (is_sought_line kinds.Header q) o ≡ Some true
-        → (h : Standing) × (line_at read slots at ≡ Some h) × (is_sought_line kinds.Header q h ≡ true)
+    by : (o : Option Standing) → line_at read slots at ≡ o → option_map (is_sought_line sought.Header q) o ≡ Some true
+        → (h : Standing) × (line_at read slots at ≡ Some h) × (is_sought_line sought.Header q h ≡ true)
     by None there e = absurd (none-some true e)
-    by (Some s) there e = (s, there, same_Some (is_sought_line kinds.Header q s) true e)
+    by (Some s) there e = (s, there, same_Some (is_sought_line sought.Header q s) true e)
 
 module _ (q own : Address) (base : ℕ) (steps : List (String Global)) (v : ValueOutline) (manner : Manner) (texts : Texts) (read : Read)
     (header next : Position) (old now : List Slot) (slot : next.slot ≡ header.slot) (index : header.index + 1 < 2 ^ 64 → next.index ≡ header.index + 1)
-    (at_base : base ≡ length q) (finds : AreHeaded q (slots_standing read old) → IsSoughtAt kinds.Header q read old header × (header.index + 1 < 2 ^ 64)) where
+    (at_base : base ≡ length q) (finds : AreHeaded q (slots_standing read old) → IsSoughtAt sought.Header q read old header × (header.index + 1 < 2 ^ 64)) where
   behind_header : (low : header.index + 1 < 2 ^ 64) (h : Standing) → line_at read old header ≡ Some h
       → slots_standing read old ≡ lines_before read old header.slot header.index ++ h ∷ lines_from read old next.slot next.index
   behind_header low h there =
@@ -82,8 +82,8 @@ module _ (q own : Address) (base : ℕ) (steps : List (String Global)) (v : Valu
   pub puts_first : has_pair (lines_from read old next.slot next.index) ≡ false → PutsBehind own base steps v manner texts read header old now
       → InsertsBelow q own steps v manner (text_of texts.source) read old now
   puts_first none puts name named ss stands headed =
-      let (sought, low) = finds (subst (AreHeaded q) (sym stands.are) headed) in
-      let (h, there, heads) = header_here q read old header sought in
+      let (found, low) = finds (subst (AreHeaded q) (sym stands.are) headed) in
+      let (h, there, heads) = header_here q read old header found in
       let (kept, are) = puts q at_base name named low stands.kept h there in
       let behind : lines_from read old next.slot next.index ≡ lines_from read old header.slot (header.index + 1) = ap₂ (lines_from read old) slot (index low) in (
         slots_standing read now,
@@ -103,8 +103,8 @@ module _ (q own : Address) (base : ℕ) (steps : List (String Global)) (v : Valu
   pub puts_last : (at : Position) → EndsSection q read old next at → PutsBehind own base steps v manner texts read at old now
       → InsertsBelow q own steps v manner (text_of texts.source) read old now
   puts_last at ends puts name named ss stands headed =
-      let (sought, low) = finds (subst (AreHeaded q) (sym stands.are) headed) in
-      let (h, there, heads) = header_here q read old header sought in
+      let (found, low) = finds (subst (AreHeaded q) (sym stands.are) headed) in
+      let (h, there, heads) = header_here q read old header found in
       let last = ends.last in
       let (kept, are) = puts q at_base name named last.next stands.kept last.line last.there in
       let split : slots_standing read old ≡ lines_before read old at.slot at.index ++ last.line ∷ last.back =
@@ -155,7 +155,7 @@ front_is (s ∷ q) (t ∷ r) x y e =
 pub puts_below : (q above : Address) (last : Step) (own : Address) (base : ℕ) (steps : List (String Global)) (v : ValueOutline) (manner : Manner) (texts : Texts)
     (read : Read) (header next behind : Position) (old now : List Slot) (r : Option Position) → own ≡ above ++ last ∷ [] → base ≡ length above
     → next.slot ≡ header.slot → (header.index + 1 < 2 ^ 64 → next.index ≡ header.index + 1)
-    → (AreHeaded q (slots_standing read old) → IsSoughtAt kinds.Header q read old header × (header.index + 1 < 2 ^ 64))
+    → (AreHeaded q (slots_standing read old) → IsSoughtAt sought.Header q read old header × (header.index + 1 < 2 ^ 64))
     → MatchOption r (has_pair (lines_from read old next.slot next.index) ≡ false) (EndsSection above read old next) → behind ≡ unwrap_or r header
     → PutsBehind own base steps v manner texts read behind old now → InsertsBelow q own steps v manner (text_of texts.source) read old now
 puts_below q above last own base steps v manner texts read header next behind old now r own_is at_base slot index finds ends is puts name named =
@@ -174,11 +174,11 @@ puts_below q above last own base steps v manner texts read header next behind ol
 
 headed_holds_none : (q : Address) (ss : List Standing) → StandAlone ss → AreHeaded q ss → list_any (holds q) ss ≡ false
 headed_holds_none q ss alone headed =
-    let (front, h, back, split, heads_it) = any_split (is_sought_line kinds.Header q) ss headed.header in
+    let (front, h, back, split, heads_it) = any_split (is_sought_line sought.Header q) ss headed.header in
     let facts = heads_is q h.base h.address heads_it in
     ap (list_any (holds q)) split ∙ below_pairs q front h back (pairs_of_all _ _ (subst StandAlone split alone)) facts.0 facts.1
 
-pub never_held : (q : Address) (text : List ℕ) (read : Read) (slots : List Slot) (place : Position) → IsSoughtAt kinds.Holder q read slots place
+pub never_held : (q : Address) (text : List ℕ) (read : Read) (slots : List Slot) (place : Position) → IsSoughtAt sought.Holder q read slots place
     → (ss : List Standing) → Stands text read slots ss → AreOrdered ss → AreHeaded q ss → ⊥
 never_held q text read slots place found ss stands ordered headed =
-    true≢false (sym (sought_there kinds.Holder q read slots place found) ∙ ap (list_any (holds q)) stands.are ∙ headed_holds_none q ss ordered.alone headed)
+    true≢false (sym (sought_there sought.Holder q read slots place found) ∙ ap (list_any (holds q)) stands.are ∙ headed_holds_none q ss ordered.alone headed)

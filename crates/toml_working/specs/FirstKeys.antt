@@ -9,27 +9,27 @@ use Rattle.toml_working.specs.InsertStanding.{spaced_by, spacing_of}
 use Rattle.toml_working.specs.Manners.{Manner}
 use Rattle.toml_working.specs.Standing.{Standing}
 
--- behind a line of this base and address: whether the section is one of those, where `same` tells it of the one of a header, and the last line
--- with a key and a value in them
+-- whether the lines behind one of this base and address stand in a section that fits; `same` tells whether that of its header does
 abbrev pub fits_behind : Bool → Bool → Option ℕ → Option Address → Bool
 fits_behind fits same (Some n) own = fits
 fits_behind fits same None None = fits
 fits_behind fits same None (Some a) = same
 
+-- the last line that is found, this one too, if it has a key and a value and its section fits
 abbrev pub found_behind : Bool → Option Standing → Standing → Option ℕ → Option Standing
 found_behind fits found s (Some n) = if fits then Some s else found
 found_behind fits found s None = found
 
 -- the last line with a key and a value in a section whose header begins with this whitespace; what was found before these lines, if none of
 -- them is one. They begin in a section of that kind, or not.
-abbrev pub last_alike : List ℕ → Bool → Option Standing → List Standing → Option Standing
-last_alike ws fits found [] = found
-last_alike ws fits found (s ∷ ss) =
-    last_alike ws (fits_behind fits (bytes_eq s.outline.ws ws) s.base s.address) (found_behind fits found s s.base) ss
+abbrev pub last_like : List ℕ → Bool → Option Standing → List Standing → Option Standing
+last_like ws fits found [] = found
+last_like ws fits found (s ∷ ss) =
+    last_like ws (fits_behind fits (bytes_eq s.outline.ws ws) s.base s.address) (found_behind fits found s s.base) ss
 
 -- the same of the lines with which a text begins: the section of the root has no header, and begins with no whitespace
-abbrev pub alike_before : List ℕ → List Standing → Option Standing
-alike_before ws front = last_alike ws (length ws == 0) None front
+abbrev pub like_before : List ℕ → List Standing → Option Standing
+like_before ws front = last_like ws (length ws == 0) None front
 
 -- as this line begins; as far in as the whitespace, if there is none
 abbrev pub spacing_like : List ℕ → Option Standing → Spacing
@@ -40,7 +40,7 @@ spacing_like ws (Some s) = spacing_of s.base s.outline
 abbrev pub spacing_after : List Standing → Option ℕ → Option Address → LineOutline → Spacing
 spacing_after front (Some n) own l = spacing_of (Some n) l
 spacing_after front None None l = plain_spacing
-spacing_after front None (Some a) l = spacing_like l.ws (alike_before l.ws front)
+spacing_after front None (Some a) l = spacing_like l.ws (like_before l.ws front)
 
 -- the same in a layout
 abbrev pub spacing_put : Manner → List Standing → Standing → Spacing

@@ -36,11 +36,12 @@ abbrev pub spaced_by : List ℕ → Option (List ℕ × List ℕ) → Spacing
 spaced_by ws None = record { ws = ws; before_equals = 0x20 ∷ []; after_equals = 0x20 ∷ [] }
 spaced_by ws (Some (before, after)) = spaced_as ws before after
 
--- the whitespace of a line behind one of this base and outline: that of this one, where it has a key and a value
+-- how a line begins that takes after one of this base and outline: as that one, where it has a key and a value, else plainly
 abbrev pub spacing_of : Option ℕ → LineOutline → Spacing
 spacing_of None l = plain_spacing
 spacing_of (Some n) l = spaced_by l.ws (equals_in l.expr)
 
+-- the same at the root, in a layout
 abbrev pub spacing_behind : Manner → Standing → Spacing
 spacing_behind manner s = laid_out manner.layout (spacing_of s.base s.outline)
 

@@ -1,11 +1,17 @@
--- `insert` of a name at the root: a new line.
-use Rattle.std.specs.Prelude.{ℕ, Bool, true, false, ◌&&◌, not, is_some, List, [], ◌∷◌, if◌then◌else◌, None}
+-- `insert` of a name at the root, or in a table that has a header: a new line.
+use Rattle.std.specs.Prelude.{ℕ, Bool, true, false, ◌&&◌, not, is_some, List, [], ◌∷◌, ◌++◌, if◌then◌else◌, None}
 use Rattle.toml_scalar.specs.Spelling.{spelled}
 use Rattle.toml_tree.specs.Bare.{fresh}
 use Rattle.toml_tree.specs.Tree.{Assign, Value, Expr, BlankLine, KeyValLine, TableLine, ArrayTableLine, Line}
 use Rattle.toml_layout.specs.declared.layout.Layout.{Layout}
 use Rattle.toml_layout.specs.declared.layout.Layout.TheVariants as layouts
+use Rattle.toml_names.specs.mentions.Mentions.{named}
+use Rattle.toml_names.specs.model.Addresses.{Address}
+use Rattle.toml_working.specs.declared.lines.Sought.TheVariants as sought
+use Rattle.toml_working.specs.FirstKeys.{like_before, spacing_like}
 use Rattle.toml_working.specs.Manners.{Manner}
+use Rattle.toml_working.specs.Seeing.{is_sought_line}
+use Rattle.toml_working.specs.Standing.{line_stands, standing}
 use Rattle.toml_layout.specs.Spacings.{Spacing, laid_out, plain_spacing, spaced_as}
 
 -- the name, `=` and the value, with this whitespace
@@ -28,16 +34,23 @@ spacing_of (ArrayTableLine ws header tail) = plain_spacing
 abbrev pub spacing_behind : Manner → Line → Spacing
 spacing_behind manner l = laid_out manner.layout (spacing_of l.expr)
 
--- behind a line: a former last line gets the newline of new lines, and the new one ends without
-abbrev pub line_behind : List ℕ → Value → Manner → Line → List Line → List Line
-line_behind name v manner l [] = record { expr = l.expr; newline = fresh manner.newline } ∷ new_line (spacing_behind manner l) name v [] ∷ []
-line_behind name v manner l (m ∷ ms) = l ∷ new_line (spacing_behind manner l) name v manner.newline ∷ m ∷ ms
+-- behind a line, with this whitespace: a former last line gets the newline of new lines, and the new one ends without
+abbrev pub line_put : Spacing → List ℕ → Value → Manner → Line → List Line → List Line
+line_put s name v manner l [] = record { expr = l.expr; newline = fresh manner.newline } ∷ new_line s name v [] ∷ []
+line_put s name v manner l (m ∷ ms) = l ∷ new_line s name v manner.newline ∷ m ∷ ms
 
--- behind the last one of some lines; `more` tells of the lines behind one whether another of them follows
+-- with that of the line
+abbrev pub line_behind : List ℕ → Value → Manner → Line → List Line → List Line
+line_behind name v manner l = line_put (spacing_behind manner l) name v manner l
+
+-- behind the last one of some lines, with whitespace by that; `more` tells of the lines behind one whether another of them follows
+abbrev pub put_last : (List Line → Bool) → (Line → Spacing) → List ℕ → Value → Manner → List Line → List Line
+put_last more spacing name v manner [] = []
+put_last more spacing name v manner (l ∷ ls) =
+    if more ls then l ∷ put_last more spacing name v manner ls else line_put (spacing l) name v manner l ls
+
 abbrev pub insert_behind : (List Line → Bool) → List ℕ → Value → Manner → List Line → List Line
-insert_behind more name v manner [] = []
-insert_behind more name v manner (l ∷ ls) =
-    if more ls then l ∷ insert_behind more name v manner ls else line_behind name v manner l ls
+insert_behind more name v manner = put_last more (spacing_behind manner) name v manner
 
 -- whether a keyval line stands before the first header
 abbrev pub has_pair : List Line → Bool
@@ -80,3 +93,28 @@ insert_first name v manner lines =
 -- behind the last keyval line before the first header, or as the first line of the root
 abbrev pub insert_lines : List ℕ → Value → Manner → List Line → List Line
 insert_lines name v manner lines = if has_pair lines then insert_behind has_pair name v manner lines else insert_first name v manner lines
+
+-- the whitespace of a line that is put in behind this one, a header or a keyval line; `before` are the lines before the header of its section
+abbrev pub spacing_put : Manner → List Line → Line → Spacing
+spacing_put manner before l = laid_out manner.layout (elim l.expr [
+  | BlankLine b ↦ plain_spacing
+  | KeyValLine ws pair tail ↦ spacing_of l.expr
+  | TableLine ws header tail ↦ spacing_like ws.text (like_before ws.text (standing before))
+  | ArrayTableLine ws header tail ↦ spacing_like ws.text (like_before ws.text (standing before))
+])
+
+-- whether a line behind these is the header of the table at the address
+abbrev pub is_header_of : Address → List Line → Line → Bool
+is_header_of q before l = is_sought_line sought.Header q (line_stands (named before) l)
+
+-- in the section of the table at the address: behind its last keyval line, or behind its header; `before` are the lines in front of these
+abbrev pub insert_from : Address → List ℕ → Value → Manner → List Line → List Line → List Line
+insert_from q name v manner before [] = []
+insert_from q name v manner before (l ∷ ls) =
+    if is_header_of q before l then put_last has_pair (spacing_put manner before) name v manner (l ∷ ls)
+    else l ∷ insert_from q name v manner (before ++ l ∷ []) ls
+
+-- in a table that is the root, or has a header
+abbrev pub insert_in : Address → List ℕ → Value → Manner → List Line → List Line
+insert_in [] name v manner lines = insert_lines name v manner lines
+insert_in (s ∷ q) name v manner lines = insert_from (s ∷ q) name v manner [] lines

@@ -35,12 +35,12 @@ SlotLooks lines slot index look = (units : List ReadUnit) (s : Standing) → sli
 abbrev pub LooksAt : Read → List Slot → Position → Look → Type 0
 LooksAt read slots at look = (s : Standing) → line_at read slots at ≡ Some s → LooksAs look s.outline
 
--- a line behind the one at the place begins with this whitespace, and has this around its `=`: in layout `Follow`,
+-- by `Follow` a line behind the one at the place begins with this whitespace, and has this around its `=`
 abbrev pub BeginsBehind : Read → List Slot → Position → Leaf → Option Equals → Type 0
 BeginsBehind read slots at ws equals = (s : Standing) → line_at read slots at ≡ Some s
     → spaced_by (leaf_text ws) (around equals) ≡ spacing_after (lines_before read slots at.slot at.index) s.base s.address s.outline
 
--- and in one of the two
+-- the same by the layout
 abbrev pub LaysOut : Layout → Read → List Slot → Position → Leaf → Option Equals → Type 0
 LaysOut layout read slots at ws equals = (s : Standing) → line_at read slots at ≡ Some s
     → spaced_by (leaf_text ws) (around equals) ≡ laid_out layout (spacing_after (lines_before read slots at.slot at.index) s.base s.address s.outline)

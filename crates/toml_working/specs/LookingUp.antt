@@ -7,43 +7,43 @@ use Rattle.toml_layout.specs.Looks.{around}
 use Rattle.toml_layout.specs.OpenOutlines.{leaf_text}
 use Rattle.toml_working.specs.declared.lines.Slot.{Slot}
 use Rattle.toml_working.specs.declared.working.Position.{Position}
-use Rattle.toml_working.specs.FirstKeys.{alike_before, last_alike, spacing_like}
+use Rattle.toml_working.specs.FirstKeys.{like_before, last_like, spacing_like}
 use Rattle.toml_working.specs.InsertStanding.{spaced_by}
 use Rattle.toml_working.specs.Placing.{lines_before, pair_at}
 use Rattle.toml_working.specs.Seeing.{line_at}
 use Rattle.toml_working.specs.Standing.{Standing, Read, slot_standing}
 
--- the line behind, or the place of this one if it has a key and a value
-abbrev pub first_pair_at : Option ℕ → Position → Option Position → Option Position
-first_pair_at base at (Some behind) = Some behind
-first_pair_at base at None = pair_at base at None
+-- the place of the last one behind a line, or its own, if there is none and it has a key and a value
+abbrev pub last_pair_from : Option ℕ → Position → Option Position → Option Position
+last_pair_from base at (Some last) = Some last
+last_pair_from base at None = pair_at base at None
 
 -- the first, if there is one, else the other
-abbrev pub first_of : Option Standing → Option Standing → Option Standing
-first_of (Some s) other = Some s
-first_of None other = other
+abbrev pub line_or : Option Standing → Option Standing → Option Standing
+line_or (Some s) other = Some s
+line_or None other = other
 
 -- the place is that of the line, or there is neither
-abbrev pub IsPlaceOf : Read → List Slot → Option Standing → Option Position → Type 0
-IsPlaceOf read slots line place = MatchOption place (line ≡ None) (λ at. (s : Standing) × (line_at read slots at ≡ Some s) × (line ≡ Some s))
+abbrev pub IsPlaceOfLine : Read → List Slot → Option Standing → Option Position → Type 0
+IsPlaceOfLine read slots line place = MatchOption place (line ≡ None) (λ at. (s : Standing) × (line_at read slots at ≡ Some s) × (line ≡ Some s))
 
--- These lines are still above. Of those behind them the first section has this line with a key and a value as its last one, if it has any, and
--- no other section is one of a header that begins with the whitespace and has such a line.
+-- `above` is still to be gone through, `passed` was. `line` is the last one with a key and a value in `passed` before its first header, if there
+-- is one. No section whose header is in `passed` begins with the whitespace and has such a line.
 pub record GoneUp (ws : List ℕ) (read : Read) (slots : List Slot) (all above : List Standing) (last : Option Position) : Type 0 where
   pub passed : List Standing
   pub is : all ≡ above ++ passed
   pub line : Option Standing
-  pub there : IsPlaceOf read slots line last
-  pub so_far : (fits : Bool) (found : Option Standing) → last_alike ws fits found passed ≡ (if fits then first_of line found else found)
+  pub there : IsPlaceOfLine read slots line last
+  pub so_far : (fits : Bool) (found : Option Standing) → last_like ws fits found passed ≡ (if fits then line_or line found else found)
 
--- the line at the place is the one that is looked for, whatever stands before
-abbrev pub IsAlikeAt : List ℕ → Read → List Slot → List Standing → Position → Type 0
-IsAlikeAt ws read slots all at = (s : Standing) × (line_at read slots at ≡ Some s)
-    × ((fits : Bool) (found : Option Standing) → last_alike ws fits found all ≡ Some s)
+-- the line at the place is the one that is looked for, whatever stands above all these
+abbrev pub IsLikeAt : List ℕ → Read → List Slot → List Standing → Position → Type 0
+IsLikeAt ws read slots all at = (s : Standing) × (line_at read slots at ≡ Some s)
+    × ((fits : Bool) (found : Option Standing) → last_like ws fits found all ≡ Some s)
 
 -- it is found, or these lines are still above
 abbrev pub GoesUp : List ℕ → Read → List Slot → List Standing → List Standing → Bool → Option Position → Type 0
-GoesUp ws read slots all above true result = (at : Position) × (result ≡ Some at) × IsAlikeAt ws read slots all at
+GoesUp ws read slots all above true result = (at : Position) × (result ≡ Some at) × IsLikeAt ws read slots all at
 GoesUp ws read slots all above false result = GoneUp ws read slots all above result
 
 -- past the line at a place,
@@ -66,9 +66,9 @@ abbrev pub CountsLines : List Slot → ℕ → ℕ → Type 0
 CountsLines slots k result = (read : Read) (slot : Slot) → slice_get slots k ≡ Some slot → result ≡ length (slot_standing read slot)
 
 -- the line that is looked for above the one at a place, or there is none
-abbrev pub FindsAlike : List ℕ → Read → List Slot → Position → Option Position → Type 0
-FindsAlike ws read slots place result = (s : Standing) → line_at read slots place ≡ Some s
-    → IsPlaceOf read slots (alike_before ws (lines_before read slots place.slot place.index)) result
+abbrev pub FindsLike : List ℕ → Read → List Slot → Position → Option Position → Type 0
+FindsLike ws read slots place result = (s : Standing) → line_at read slots place ≡ Some s
+    → IsPlaceOfLine read slots (like_before ws (lines_before read slots place.slot place.index)) result
 
 -- whether the line at a place begins with this whitespace
 abbrev pub TellsBeginning : List ℕ → Read → List Slot → Position → Bool → Type 0
@@ -78,4 +78,4 @@ TellsBeginning ws read slots at result = (s : Standing) → line_at read slots a
 -- and begins with that whitespace
 abbrev pub BeginsSection : List ℕ → Read → List Slot → Position → Leaf → Option Equals → Type 0
 BeginsSection own read slots place ws equals = (s : Standing) → line_at read slots place ≡ Some s
-    → spaced_by (leaf_text ws) (around equals) ≡ spacing_like own (alike_before own (lines_before read slots place.slot place.index))
+    → spaced_by (leaf_text ws) (around equals) ≡ spacing_like own (like_before own (lines_before read slots place.slot place.index))

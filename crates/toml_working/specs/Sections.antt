@@ -10,7 +10,7 @@ use Rattle.toml_units.specs.declared.unit.Unit.{Unit as ReadUnit}
 use Rattle.toml_layout.specs.Beginnings.{begins}
 use Rattle.toml_layout.specs.Outlines.{ValueOutline}
 use Rattle.toml_working.specs.declared.lines.Slot.{Slot}
-use Rattle.toml_working.specs.declared.lines.Sought.TheVariants as kinds
+use Rattle.toml_working.specs.declared.lines.Sought.TheVariants as sought
 use Rattle.toml_working.specs.declared.working.Position.{Position}
 use Rattle.toml_working.specs.declared.working.Tree.{Tree}
 use Rattle.toml_working.specs.FirstKeys.{spacing_put}
@@ -54,11 +54,11 @@ FindsSectionEnd q units slots from result = (lines : List tree.Line) → let rea
 -- behind lines that end with these stands the section of the table
 abbrev pub IsBehindHeader : Address → List Standing → Type 0
 IsBehindHeader q front = (before : List Standing) × (h : Standing) × (between : List Standing) × (front ≡ before ++ h ∷ between)
-    × (is_sought_line kinds.Header q h ≡ true) × EachIs IsNoHeader between
+    × (is_sought_line sought.Header q h ≡ true) × EachIs IsNoHeader between
 
 -- the line is the header of the table, or has a key and a value in its section
 abbrev pub StandsBelow : Address → List Standing → Standing → Type 0
-StandsBelow q front s = (is_sought_line kinds.Header q s ≡ true) ⊎ (is_of_section q s ≡ true) ⊎ (IsPair s × IsBehindHeader q front)
+StandsBelow q front s = (is_sought_line sought.Header q s ≡ true) ⊎ (is_of_section q s ≡ true) ⊎ (IsPair s × IsBehindHeader q front)
 
 -- The new line stands behind the last one with a key and a value in the section of the table, or behind its header, where the section has
 -- none, with the whitespace of the layout.

@@ -10,7 +10,7 @@ use Rattle.toml_working.specs.declared.lines.Line.{Line}
 use Rattle.toml_working.specs.declared.lines.Seen.{Seen}
 use Rattle.toml_working.specs.declared.lines.Slot.{Slot}
 use Rattle.toml_working.specs.declared.lines.Sought.{Sought}
-use Rattle.toml_working.specs.declared.lines.Sought.TheVariants as kinds
+use Rattle.toml_working.specs.declared.lines.Sought.TheVariants as sought
 use Rattle.toml_working.specs.declared.working.Position.{Position}
 use Rattle.toml_working.specs.declared.working.TablePlace.{TablePlace}
 use Rattle.toml_working.specs.declared.working.TablePlace.TheVariants as places
@@ -61,10 +61,10 @@ heads_below p None own = lies_below p own
 
 -- whether the line is what is sought
 abbrev pub is_sought : Sought → Address → Found → Bool
-is_sought kinds.Holder p f = leads_to p f.base f.address
-is_sought kinds.Header p f = heads p f.base f.address
-is_sought kinds.Dotted p f = is_dotted p f.base f.address
-is_sought kinds.HeaderBelow p f = heads_below p f.base f.address
+is_sought sought.Holder p f = leads_to p f.base f.address
+is_sought sought.Header p f = heads p f.base f.address
+is_sought sought.Dotted p f = is_dotted p f.base f.address
+is_sought sought.HeaderBelow p f = heads_below p f.base f.address
 
 abbrev pub is_sought_line : Sought → Address → Standing → Bool
 is_sought_line what p s = is_sought what p (found s)
@@ -113,17 +113,17 @@ FindsLine what p units slots slot result = (lines : List tree.Line) → let read
 
 -- a line that makes the table at the address, or is the header of one below it
 abbrev pub IsTableLine : Address → Read → List Slot → TablePlace → Type 0
-IsTableLine p read slots (places.Header at) = IsSoughtAt kinds.Header p read slots at
-IsTableLine p read slots (places.Dotted at) = IsSoughtAt kinds.Dotted p read slots at
-IsTableLine p read slots (places.Implicit at) = IsSoughtAt kinds.HeaderBelow p read slots at
+IsTableLine p read slots (places.Header at) = IsSoughtAt sought.Header p read slots at
+IsTableLine p read slots (places.Dotted at) = IsSoughtAt sought.Dotted p read slots at
+IsTableLine p read slots (places.Implicit at) = IsSoughtAt sought.HeaderBelow p read slots at
 
 abbrev pub FindsTable : Address → List ReadUnit → List Slot → Option TablePlace → Type 0
 FindsTable p units slots result = (lines : List tree.Line) → IfSome result (IsTableLine p (read_by units lines) slots)
 
 -- lines have a header of the table at the address, and no dotted key makes that table
 pub record AreHeaded (p : Address) (ss : List Standing) : Type 0 where
-  pub header : list_any (is_sought_line kinds.Header p) ss ≡ true
-  pub no_dotted : list_any (is_sought_line kinds.Dotted p) ss ≡ false
+  pub header : list_any (is_sought_line sought.Header p) ss ≡ true
+  pub no_dotted : list_any (is_sought_line sought.Dotted p) ss ≡ false
 
 -- it is the place of a header line, with an index that can be counted on from
 abbrev pub IsHeaderPlace : TablePlace → Type 0
@@ -134,7 +134,7 @@ IsHeaderPlace (places.Implicit at) = ⊥
 -- the place of a header line of the slot is found, or the slot has none
 abbrev pub FindsHeaderIn : Address → List ReadUnit → List Slot → ℕ → Option TablePlace → Type 0
 FindsHeaderIn p units slots slot result = (lines : List tree.Line) → let read = read_by units lines in
-    MatchOption result (IfSome (slice_get slots slot) (λ s. LacksSought kinds.Header p (slot_standing read s))) IsHeaderPlace
+    MatchOption result (IfSome (slice_get slots slot) (λ s. LacksSought sought.Header p (slot_standing read s))) IsHeaderPlace
 
 -- where lines have a header of the table, and no dotted key makes it, no other place is found than a header's
 abbrev pub MeetsHeader : Address → List ReadUnit → List Slot → Option TablePlace → Type 0
@@ -147,17 +147,17 @@ FindsHeader p units slots result = (lines : List tree.Line) → AreHeaded p (slo
 
 -- the place of a line whose value is what stands at the address, or holds it
 abbrev pub FindsHolder : Address → List ReadUnit → List Slot → Option Position → Type 0
-FindsHolder p units slots result = (lines : List tree.Line) → IfSome result (IsSoughtAt kinds.Holder p (read_by units lines) slots)
+FindsHolder p units slots result = (lines : List tree.Line) → IfSome result (IsSoughtAt sought.Holder p (read_by units lines) slots)
 
 -- the same, or there is none
 abbrev pub FindsAny : Address → List ReadUnit → List Slot → Option Position → Type 0
 FindsAny p units slots result = (lines : List tree.Line) → let read = read_by units lines in
-    MatchOption result (LacksSought kinds.Holder p (slots_standing read slots)) (IsSoughtAt kinds.Holder p read slots)
+    MatchOption result (LacksSought sought.Holder p (slots_standing read slots)) (IsSoughtAt sought.Holder p read slots)
 
 -- of lines that stand alone none is such a line; the root stands on none
 abbrev pub HoldsNone : Address → List ReadUnit → List Slot → Type 0
 HoldsNone p units slots = ¬ (p ≡ []) → (lines : List tree.Line) → let ss = slots_standing (read_by units lines) slots in
-    StandAlone ss → LacksSought kinds.Holder p ss
+    StandAlone ss → LacksSought sought.Holder p ss
 
 -- the place of such a line, or of lines that stand alone none is
 abbrev pub FindsValue : Address → List ReadUnit → List Slot → Option Position → Type 0

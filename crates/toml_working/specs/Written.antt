@@ -1,22 +1,23 @@
 -- The text after one plain edit.
-use Rattle.std.specs.Prelude.{◌≡◌, true, ℕ, List, [], ◌∷◌, ◌++◌, Any, length, ◌==◌, if◌then◌else◌}
+use Rattle.std.specs.Prelude.{◌≡◌, ◌⊎◌, true, ℕ, List, [], ◌∷◌, ◌++◌, Any, length, ◌==◌, if◌then◌else◌}
 use Rattle.std.specs.List.{list_any}
 use Rattle.toml_tree.specs.Profiles.{SpellsIn, IsValueIn}
 use Rattle.toml_tree.specs.Spells.{joined, lines_parts}
 use Rattle.toml_tree.specs.Tree.{Value, Line, Doc}
 use Rattle.toml_tree.specs.declared.profile.Profile.{Profile}
-use Rattle.toml_names.specs.model.Addresses.{Address}
+use Rattle.toml_names.specs.model.Addresses.{Address, child}
 use Rattle.toml_names.specs.mentions.Joining.{is_lone}
 use Rattle.toml_names.specs.mentions.Mentions.{named}
-use Rattle.toml_names.specs.declared.model.address.Step.TheVariants.{Name}
 use Rattle.toml_edits.specs.Edits.{Change, set, insert, rename, remove}
 use Rattle.toml_layout.specs.declared.layout.Layout.{Layout}
+use Rattle.toml_working.specs.declared.lines.Sought.TheVariants as sought
 use Rattle.toml_working.specs.Manners.{Manner}
 use Rattle.toml_working.specs.Setting.{set_lines}
-use Rattle.toml_working.specs.Inserting.{insert_lines}
+use Rattle.toml_working.specs.Inserting.{insert_in}
 use Rattle.toml_working.specs.Removing.{remove_lines}
 use Rattle.toml_working.specs.RemoveStanding.{is_undotted_pair}
 use Rattle.toml_working.specs.Renaming.{rename_lines}
+use Rattle.toml_working.specs.Seeing.{is_sought_line}
 use Rattle.toml_working.specs.Standing.{standing}
 
 -- the newline of the first line, or LF where there is none
@@ -33,16 +34,20 @@ abbrev pub HasValue : List Line → Address → Type 0
 HasValue lines p = Any (λ m. (m.address ≡ p) × (is_lone m.role ≡ true)) (named lines)
 
 -- a line has the value there, by a key that is not dotted
-abbrev pub HasLine : List Line → Address → Type 0
-HasLine lines p = list_any (is_undotted_pair p) (standing lines) ≡ true
+abbrev pub HasUndottedLine : List Line → Address → Type 0
+HasUndottedLine lines p = list_any (is_undotted_pair p) (standing lines) ≡ true
+
+-- the table at the address is the root, or lines have a header of it
+abbrev pub HasSection : List Line → Address → Type 0
+HasSection lines q = (q ≡ []) ⊎ (list_any (is_sought_line sought.Header q) (standing lines) ≡ true)
 
 -- the lines after a plain edit; the manner is that of the text before all edits
 abbrev pub AreEdited : Profile → Change → Manner → List Line → List Line → Type 0
 AreEdited profile (set p text) manner old new = (v : Value) × IsValueIn profile v text × HasValue old p × (new ≡ set_lines p v old)
 AreEdited profile (insert p text) manner old new =
-    (v : Value) × IsValueIn profile v text × (name : List ℕ) × (p ≡ Name name ∷ []) × (new ≡ insert_lines name v manner old)
+    (v : Value) × IsValueIn profile v text × (q : Address) × (name : List ℕ) × (p ≡ child q name) × HasSection old q × (new ≡ insert_in q name v manner old)
 AreEdited profile (rename p to) manner old new = new ≡ rename_lines p to old
-AreEdited profile (remove p) manner old new = HasLine old p × (new ≡ remove_lines p old)
+AreEdited profile (remove p) manner old new = HasUndottedLine old p × (new ≡ remove_lines p old)
 AreEdited profile _ manner old new = ⊥
 
 -- the text after it, the mark kept

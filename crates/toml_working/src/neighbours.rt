@@ -2,7 +2,7 @@
 ghost use Rattle.std.specs.Prelude.{IfOk};
 ghost use Rattle.toml_layout.specs.OpenOutlines.{leaf_text};
 ghost use Rattle.toml_working.specs.Looking.{BeginsBehind, LaysOut};
-ghost use Rattle.toml_working.specs.LookingUp.{BeginsSection, CountsLines, FindsAlike, GoesUpLine, GoesUpSlot, TellsBeginning};
+ghost use Rattle.toml_working.specs.LookingUp.{BeginsSection, CountsLines, FindsLike, GoesUpLine, GoesUpSlot, TellsBeginning};
 ghost use Rattle.toml_working.specs.Starting.{read_of};
 
 use crate::lines::{Body, Kept, Line, Slot};
@@ -240,7 +240,7 @@ impl<'x> Tree<'x> {
         place: Position,
         ws: Leaf<'x>,
     ) -> Result<Option<Position>, AllocError>
-        ensures { IfOk result (FindsAlike (leaf_text ws.entry) (read_of before.entry) self.now.slots.items place) }
+        ensures { IfOk result (FindsLike (leaf_text ws.entry) (read_of before.entry) self.now.slots.items place) }
     {
         let (mut last, found) = self.like_in(before, place, ws, None)?;
         if found {
@@ -267,8 +267,8 @@ impl<'x> Tree<'x> {
         }
     }
 
-    /// That line among those of a slot before a place, and `true`, if it is one of them; else the last line with a key and a value of the
-    /// first section from there on. `last` is the one that is so from the place on.
+    /// Goes up past the lines of a slot before a place. With `true`: the line that is looked for. With `false`: the last line with a key
+    /// and a value from the slot's first line on and before the next header, if there is one; `last` is that from the place on.
     fn like_in(
         &self,
         before: Before<'_, 'x>,
@@ -280,18 +280,18 @@ impl<'x> Tree<'x> {
             IfOk result (λ r. GoesUpSlot (leaf_text ws.entry) read self.now.slots.items place last r.1 r.0) }
     {
         let slot = place.slot;
-        let mut first = last;
+        let mut last = last;
         for index in (0..place.index).rev() {
-            let (next, found) = self.like_line(before, Position { slot, index }, ws, first)?;
+            let (next, found) = self.like_line(before, Position { slot, index }, ws, last)?;
             if found {
                 return Ok((next, true));
             }
-            first = next;
+            last = next;
         }
-        Ok((first, false))
+        Ok((last, false))
     }
 
-    /// The same past one line.
+    /// The same past the line at a place.
     fn like_line(
         &self,
         before: Before<'_, 'x>,
@@ -306,7 +306,7 @@ impl<'x> Tree<'x> {
             return Ok((last, false));
         };
         if !line.is_header() {
-            return Ok((line.first_pair(at, last), false));
+            return Ok((line.last_pair_from(at, last), false));
         }
         if last.is_some() && self.begins_with(before, at, ws)? {
             Ok((last, true))

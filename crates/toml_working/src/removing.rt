@@ -36,7 +36,7 @@ impl<'x> Tree<'x> {
         at: &Address,
         flat: bool,
     ) -> Result<bool, AllocError>
-        ensures root { OnOk result (RemovesLines at.now (read_of before.entry) self.old self.new) }
+        ensures line { OnOk result (RemovesLines at.now (read_of before.entry) self.old self.new) }
         ensures value { IfOk result (TakesFromValue at.now (read_of before.entry) self.old self.new) }
     {
         match self.value_line(before, named, at) {
@@ -52,7 +52,7 @@ impl<'x> Tree<'x> {
         place: Position,
         at: &Address,
     ) -> Result<bool, AllocError>
-        ensures root { let read = read_of before.entry in
+        ensures line { let read = read_of before.entry in
             OnOk result (IsSoughtAt Holder at.now read self.old.slots.items place → RemovesLines at.now read self.old self.new) }
         ensures value { let read = read_of before.entry in
             IfOk result (λ done. IsSoughtAt Holder at.now read self.old.slots.items place → TakesFromValue at.now read self.old self.new done) }

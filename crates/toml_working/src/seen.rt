@@ -2,7 +2,7 @@
 ghost use Rattle.std.specs.Prelude.{◌≡◌};
 ghost use Rattle.toml_names.specs.model.Addresses.{lent};
 ghost use Rattle.toml_working.specs.InsertStanding.{is_bare};
-ghost use Rattle.toml_working.specs.LookingUp.{first_pair_at};
+ghost use Rattle.toml_working.specs.LookingUp.{last_pair_from};
 ghost use Rattle.toml_working.specs.Placing.{is_header, pair_at};
 ghost use Rattle.toml_working.specs.RenameStanding.{part_number};
 ghost use Rattle.toml_working.specs.Seeing.{heads, heads_below, is_dotted, is_sought, seen, steps_to};
@@ -48,12 +48,12 @@ impl Seen<'_> {
         }
     }
 
-    /// The place of the line with a key and a value behind it, or its own, if there is none and it has them.
-    pub(crate) fn first_pair(self, place: Position, behind: Option<Position>) -> Option<Position>
-        ensures { result ≡ first_pair_at self.entry.base place behind }
+    /// The last line with a key and a value behind it, or its own place, if there is none and it has them.
+    pub(crate) fn last_pair_from(self, place: Position, last: Option<Position>) -> Option<Position>
+        ensures { result ≡ last_pair_from self.entry.base place last }
     {
-        match behind {
-            Some(_) => behind,
+        match last {
+            Some(_) => last,
             None => self.pair_at(place, None),
         }
     }

@@ -26,7 +26,7 @@ use Rattle.toml_working.specs.Manners.{Manner}
 
 -- ---- trees
 
-abbrev empty : Piece
+abbrev pub empty : Piece
 empty = fresh []
 
 abbrev space : Piece
@@ -35,34 +35,34 @@ space = fresh (0x20 ∷ [])
 abbrev no_gap : Gap
 no_gap = record { lines = []; ws = empty }
 
-abbrev key : ℕ → Key
+abbrev pub key : ℕ → Key
 key letter = record { first = fresh (letter ∷ []); rest = [] }
 
-abbrev dotted : ℕ → ℕ → Key
+abbrev pub dotted : ℕ → ℕ → Key
 dotted one two = record { first = fresh (one ∷ []); rest = record { before_dot = empty; after_dot = empty; part = fresh (two ∷ []) } ∷ [] }
 
 abbrev assign : Key → Assign
 assign k = record { key = k; before_equals = space; after_equals = space }
 
-abbrev digit : ℕ → Value
+abbrev pub digit : ℕ → Value
 digit d = Scalar kinds.Integer (fresh (d ∷ []))
 
-abbrev no_tail : Blank
+abbrev pub no_tail : Blank
 no_tail = record { ws = empty; comment = None }
 
-abbrev header : Key → Header
+abbrev pub header : Key → Header
 header k = record { before = empty; key = k; after = empty }
 
-abbrev ended : Expr → Line
+abbrev pub ended : Expr → Line
 ended e = record { expr = e; newline = fresh (0x0A ∷ []) }
 
-abbrev keyval : Key → Value → Expr
+abbrev pub keyval : Key → Value → Expr
 keyval k v = KeyValLine empty (record { assign = assign k; value = v }) no_tail
 
 abbrev nested : Value
 nested = array_of (More no_gap (digit 0x31) no_gap (Last (record { lines = []; ws = space }) (inline_of (LastPair no_gap (assign (key 0x63)) (digit 0x32) no_gap)) no_gap))
 
-abbrev document : List Line
+abbrev pub document : List Line
 document =
     ended (KeyValLine empty (record { assign = assign (dotted 0x61 0x62); value = nested }) (record { ws = space; comment = Some (fresh (0x23 ∷ 0x20 ∷ 0x78 ∷ [])) }))
     ∷ ended (TableLine empty (header (key 0x74)) no_tail)
@@ -71,7 +71,7 @@ document =
     ∷ ended (keyval (key 0x63) (digit 0x34))
     ∷ record { expr = TableLine empty (header (dotted 0x75 0x76)) no_tail; newline = empty } ∷ []
 
-abbrev pairs : List Line
+abbrev pub pairs : List Line
 pairs = ended (keyval (key 0x64) (digit 0x31)) ∷ record { expr = keyval (key 0x65) (digit 0x32); newline = empty } ∷ []
 
 -- a table over three lines, with a comment and a last comma
@@ -84,34 +84,34 @@ over_lines =
 -- ---- the lines of the texts
 
 -- `a.b = [1, {c = 2}] # x`
-abbrev first : List ℕ
+abbrev pub first : List ℕ
 first = 0x61 ∷ 0x2E ∷ 0x62 ∷ 0x20 ∷ 0x3D ∷ 0x20 ∷ 0x5B ∷ 0x31 ∷ 0x2C ∷ 0x20 ∷ 0x7B ∷ 0x63 ∷ 0x20 ∷ 0x3D ∷ 0x20 ∷ 0x32 ∷ 0x7D ∷ 0x5D ∷ 0x20 ∷ 0x23 ∷ 0x20 ∷ 0x78 ∷ 0x0A ∷ []
 
 -- `[t]`
-abbrev table : List ℕ
+abbrev pub table : List ℕ
 table = 0x5B ∷ 0x74 ∷ 0x5D ∷ 0x0A ∷ []
 
 -- `c = 3`
-abbrev third : List ℕ
+abbrev pub third : List ℕ
 third = 0x63 ∷ 0x20 ∷ 0x3D ∷ 0x20 ∷ 0x33 ∷ 0x0A ∷ []
 
 -- `[[u]]`
-abbrev array : List ℕ
+abbrev pub array : List ℕ
 array = 0x5B ∷ 0x5B ∷ 0x75 ∷ 0x5D ∷ 0x5D ∷ 0x0A ∷ []
 
 -- `c = 4`
-abbrev fourth : List ℕ
+abbrev pub fourth : List ℕ
 fourth = 0x63 ∷ 0x20 ∷ 0x3D ∷ 0x20 ∷ 0x34 ∷ 0x0A ∷ []
 
 -- `[u.v]`
-abbrev last : List ℕ
+abbrev pub last : List ℕ
 last = 0x5B ∷ 0x75 ∷ 0x2E ∷ 0x76 ∷ 0x5D ∷ []
 
-abbrev nine : Value
+abbrev pub nine : Value
 nine = digit 0x39
 
 -- the texts that trees spell
-abbrev text : List Line → List ℕ
+abbrev pub text : List Line → List ℕ
 text lines = joined (lines_parts lines)
 
 same : text document ≡ first ++ table ++ third ++ array ++ fourth ++ last
@@ -169,7 +169,7 @@ set_over_lines = refl
 
 -- ---- insert
 
-abbrev plain : List ℕ → Manner
+abbrev pub plain : List ℕ → Manner
 plain newline = record { newline = newline; layout = layouts.Plain }
 
 -- behind the last keyval line before the first header, with the newline of the style: `"z z" = 9`, CR, LF
@@ -189,11 +189,11 @@ inserted_first = refl
 
 -- ---- insert as the neighbours are written
 
-abbrev follow : Manner
+abbrev pub follow : Manner
 follow = record { newline = 0x0A ∷ []; layout = layouts.Follow }
 
 -- a key line with this whitespace before it and before its `=`, and behind that: `d`, `=`, `1`
-abbrev spaced_pair : List ℕ → List ℕ → List ℕ → Line
+abbrev pub spaced_pair : List ℕ → List ℕ → List ℕ → Line
 spaced_pair ws before after =
     ended (KeyValLine (fresh ws) (record { assign = record { key = key 0x64; before_equals = fresh before; after_equals = fresh after }; value = digit 0x31 }) no_tail)
 
@@ -203,7 +203,7 @@ remark_line newline = record { expr = BlankLine (record { ws = empty; comment = 
 abbrev blank_line : Line
 blank_line = ended (BlankLine no_tail)
 
-abbrev last_header : Line
+abbrev pub last_header : Line
 last_header = record { expr = TableLine empty (header (key 0x74)) no_tail; newline = empty }
 
 -- as far in as the last keyval line, and nothing around `=` as there: `  d=1`, `  f=9`

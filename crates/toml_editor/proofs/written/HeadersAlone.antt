@@ -1,5 +1,5 @@
 -- A table that has a header is made by no dotted key.
-use Rattle.std.proofs.Common.{◌≡◌, ◌∙◌, ◌⊎◌, inl, inr, ℕ, ◌+◌, ◌<◌, Bool, true, false, ◌||◌, Option, Some, None, List, [], ◌∷◌, ◌++◌, length, length-append, refl, sym, ap, subst, true≢false, append_assoc, append-nil, arith}
+use Rattle.std.proofs.Common.{◌≡◌, ◌∙◌, ◌⊎◌, inl, inr, ℕ, ◌+◌, ◌<◌, Bool, true, false, ◌||◌, Some, List, [], ◌∷◌, ◌++◌, length, length-append, refl, sym, ap, subst, true≢false, append-nil, arith}
 use Rattle.std.specs.Bool.{nat_lt}
 use Rattle.std.specs.List.{list_any}
 use Rattle.std.specs.Prelude.{Any, IfSome}
@@ -8,18 +8,20 @@ use Rattle.std.proofs.lemmas.Bool.Decides.{nat_tests}
 use Rattle.toml_tree.specs.Tree.{Expr, BlankLine, KeyValLine, TableLine, ArrayTableLine, Line}
 use Rattle.toml_names.specs.declared.mentions.mention.Role.{Role}
 use Rattle.toml_names.specs.declared.mentions.mention.Role.TheVariants.{Passed, Header, Dotted, Valued, Tables, Element, Bare}
-use Rattle.toml_names.specs.mentions.Keys.{Key, key_names, part_name, rest_names}
-use Rattle.toml_names.specs.mentions.Mentions.{Named, fronts, inside, named, named_by, named_from, root, section, value_named}
+use Rattle.toml_names.specs.mentions.Keys.{Key, key_names}
+use Rattle.toml_names.specs.mentions.Mentions.{Named, fronts, named, named_by, named_from, root, section}
 use Rattle.toml_names.specs.mentions.Rules.{KeepsRules, may_follow}
 use Rattle.toml_names.specs.model.Addresses.{Address, IsAbove, below, child, is_above}
 use Rattle.toml_names.specs.reader.Names.{is_own, own_address}
 use Rattle.toml_names.proofs.Proved.{above_is_above, own_address_is_named}
 use Rattle.toml_units.specs.Units.{line_base}
-use Rattle.toml_working.specs.declared.lines.Sought.TheVariants as kinds
+use Rattle.toml_working.specs.declared.lines.Sought.TheVariants as sought
 use Rattle.toml_working.specs.Seeing.{AreHeaded, is_dotted, is_sought_line}
 use Rattle.toml_working.specs.Standing.{Standing, line_stands, standing, standing_from}
+use Rattle.toml_editor.specs.StandingLaws.{HeaderIsAlone}
 use Rattle.toml_editor.proofs.written.Clear.{below-cons}
-use Rattle.toml_editor.proofs.written.OneSection.{IsLineOf, among_of, headed_at, line_of}
+use Rattle.toml_editor.proofs.written.DocumentSections.{IsLineOf, headed_at, line_of}
+use Rattle.toml_editor.proofs.written.OneSection.{among_of}
 use Rattle.toml_editor.proofs.written.Pairwise.{Goes, Has, PairsAre, from_has, has_append_left, has_append_right, has_of_any, pairs_of_all}
 
 lower : (m n : ℕ) → nat_lt m n ≡ true → m < n
@@ -91,32 +93,32 @@ module _ (q : Address) where
       ]
 
   -- so it is of a line
-  dotted_line : (xs : List Named) (n : ℕ) (l : Line) → is_sought_line kinds.Dotted q (line_stands xs l) ≡ true → Has IsDotted (named_by xs n l.expr)
-  dotted_line xs n l sought = by l.expr refl
+  dotted_line : (xs : List Named) (n : ℕ) (l : Line) → is_sought_line sought.Dotted q (line_stands xs l) ≡ true → Has IsDotted (named_by xs n l.expr)
+  dotted_line xs n l found = by l.expr refl
     where
       by : (e : Expr) → l.expr ≡ e → Has IsDotted (named_by xs n l.expr)
-      by (BlankLine b) is = absurd (true≢false (sym (ap (λ e. is_dotted q (line_base xs e) (own_address xs e)) (sym is) ∙ sought)))
-      by (TableLine ws header tail) is = absurd (true≢false (sym (ap (λ e. is_dotted q (line_base xs e) (own_address xs e)) (sym is) ∙ sought)))
-      by (ArrayTableLine ws header tail) is = absurd (true≢false (sym (ap (λ e. is_dotted q (line_base xs e) (own_address xs e)) (sym is) ∙ sought)))
+      by (BlankLine b) is = absurd (true≢false (sym (ap (λ e. is_dotted q (line_base xs e) (own_address xs e)) (sym is) ∙ found)))
+      by (TableLine ws header tail) is = absurd (true≢false (sym (ap (λ e. is_dotted q (line_base xs e) (own_address xs e)) (sym is) ∙ found)))
+      by (ArrayTableLine ws header tail) is = absurd (true≢false (sym (ap (λ e. is_dotted q (line_base xs e) (own_address xs e)) (sym is) ∙ found)))
       by (KeyValLine ws pair tail) is =
           let there : is_dotted q (Some (length (section xs))) (Some (below (section xs) (key_names pair.assign.key))) ≡ true =
-          ap (λ e. is_dotted q (line_base xs e) (own_address xs e)) (sym is) ∙ sought in
+          ap (λ e. is_dotted q (line_base xs e) (own_address xs e)) (sym is) ∙ found in
           let (long, above) = and_parts (nat_lt (length (section xs)) (length q)) (is_above q (below (section xs) (key_names pair.assign.key))) there in
           subst (λ e. Has IsDotted (named_by xs n e)) (sym is)
           (has_append_left IsDotted (fronts n (section xs) (key_names pair.assign.key)) _
           (in_fronts n (section xs) (key_names pair.assign.key) ((above_is_above q _).0 above) (lower (length (section xs)) (length q) long)))
 
-  dotted_named : (ls : List Line) (xs : List Named) (n : ℕ) → list_any (is_sought_line kinds.Dotted q) (standing_from xs n ls) ≡ true → Has IsDotted (named_from xs n ls)
+  dotted_named : (ls : List Line) (xs : List Named) (n : ℕ) → list_any (is_sought_line sought.Dotted q) (standing_from xs n ls) ≡ true → Has IsDotted (named_from xs n ls)
   dotted_named [] xs n there = absurd (true≢false (sym there))
-  dotted_named (l ∷ ls) xs n there = by (is_sought_line kinds.Dotted q (line_stands xs l)) refl there (λ more. dotted_named ls (xs ++ named_by xs n l.expr) (n + 1) more)
+  dotted_named (l ∷ ls) xs n there = by (is_sought_line sought.Dotted q (line_stands xs l)) refl there (λ more. dotted_named ls (xs ++ named_by xs n l.expr) (n + 1) more)
     where
       up : (ms : List Line) (ys : List Named) (k : ℕ) → Has IsDotted ys → Has IsDotted (named_from ys k ms)
       up [] ys k h = h
       up (m ∷ ms) ys k h = up ms (ys ++ named_by ys k m.expr) (k + 1) (has_append_left IsDotted ys (named_by ys k m.expr) h)
 
-      by : (b : Bool) → is_sought_line kinds.Dotted q (line_stands xs l) ≡ b
-          → (b || list_any (is_sought_line kinds.Dotted q) (standing_from (xs ++ named_by xs n l.expr) (n + 1) ls)) ≡ true
-          → (list_any (is_sought_line kinds.Dotted q) (standing_from (xs ++ named_by xs n l.expr) (n + 1) ls) ≡ true → Has IsDotted (named_from xs n (l ∷ ls)))
+      by : (b : Bool) → is_sought_line sought.Dotted q (line_stands xs l) ≡ b
+          → (b || list_any (is_sought_line sought.Dotted q) (standing_from (xs ++ named_by xs n l.expr) (n + 1) ls)) ≡ true
+          → (list_any (is_sought_line sought.Dotted q) (standing_from (xs ++ named_by xs n l.expr) (n + 1) ls) ≡ true → Has IsDotted (named_from xs n (l ∷ ls)))
           → Has IsDotted (named_from xs n (l ∷ ls))
       by true is h more = up ls (xs ++ named_by xs n l.expr) (n + 1) (has_append_right IsDotted xs (named_by xs n l.expr) (dotted_line xs n l is))
       by false is h more = more h
@@ -129,18 +131,21 @@ module _ (q : Address) where
       own (own_address_is_named it.first it.rest it.line) in
       has_of_any IsOwn (named lines) (subst (λ ls. Any IsOwn (named ls)) (sym it.lines_are) (k, m, low, at, (is.0, is.1)))
 
-  header_named : (lines : List Line) → list_any (is_sought_line kinds.Header q) (standing lines) ≡ true → Has IsOwn (named lines)
+  header_named : (lines : List Line) → list_any (is_sought_line sought.Header q) (standing lines) ≡ true → Has IsOwn (named lines)
   header_named lines there =
-      let among = among_of (is_sought_line kinds.Header q) (standing lines) there in
+      let among = among_of (is_sought_line sought.Header q) (standing lines) there in
       line_named lines among.front among.line among.back (line_of among.front lines [] among.line among.back among.is)
       (headed_at q among.line.base among.line.address among.holds)
 
-  pub header_is_alone : (lines : List Line) → KeepsRules (named lines) → list_any (is_sought_line kinds.Header q) (standing lines) ≡ true → AreHeaded q (standing lines)
-  header_is_alone lines keeps there = record {
+  alone : (lines : List Line) → KeepsRules (named lines) → list_any (is_sought_line sought.Header q) (standing lines) ≡ true → AreHeaded q (standing lines)
+  alone lines keeps there = record {
     header = there;
-    no_dotted = by (list_any (is_sought_line kinds.Dotted q) (standing lines)) refl;
+    no_dotted = by (list_any (is_sought_line sought.Dotted q) (standing lines)) refl;
   }
     where
-      by : (b : Bool) → list_any (is_sought_line kinds.Dotted q) (standing lines) ≡ b → b ≡ false
+      by : (b : Bool) → list_any (is_sought_line sought.Dotted q) (standing lines) ≡ b → b ≡ false
       by false is = refl
       by true is = absurd (own_not_dotted (named lines) (pairs_of_all Goes (named lines) keeps) (header_named lines there) (dotted_named lines (root ∷ []) 0 is))
+
+pub header_is_alone : HeaderIsAlone
+header_is_alone q lines keeps there = alone q lines keeps there

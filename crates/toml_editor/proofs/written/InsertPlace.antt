@@ -10,25 +10,26 @@ use Rattle.toml_working.specs.Inserting.{comments_end, goes_below, has_comment, 
 use Rattle.toml_working.specs.Manners.{Manner}
 use Rattle.toml_layout.specs.Spacings.{plain_spacing}
 
--- no header stands on the line; a key or a comment does
-abbrev pub IsNoHeader : Expr → Type 0
-IsNoHeader (BlankLine b) = Unit {0}
-IsNoHeader (KeyValLine ws pair tail) = Unit {0}
-IsNoHeader (TableLine ws header tail) = ⊥
-IsNoHeader (ArrayTableLine ws header tail) = ⊥
+-- no header stands on the line
+abbrev pub IsHeadless : Expr → Type 0
+IsHeadless (BlankLine b) = Unit {0}
+IsHeadless (KeyValLine ws pair tail) = Unit {0}
+IsHeadless (TableLine ws header tail) = ⊥
+IsHeadless (ArrayTableLine ws header tail) = ⊥
 
+-- a key, a header or a comment does
 abbrev pub IsFull : Expr → Type 0
 IsFull (BlankLine b) = is_some b.comment ≡ true
 IsFull (KeyValLine ws pair tail) = Unit {0}
-IsFull (TableLine ws header tail) = ⊥
-IsFull (ArrayTableLine ws header tail) = ⊥
+IsFull (TableLine ws header tail) = Unit {0}
+IsFull (ArrayTableLine ws header tail) = Unit {0}
 
 -- ---- the lines that are meant
 
-pub pair_heads : (l : Line) (ls : List Line) → has_pair (l ∷ ls) ≡ true → IsNoHeader l.expr
+pub pair_heads : (l : Line) (ls : List Line) → has_pair (l ∷ ls) ≡ true → IsHeadless l.expr
 pair_heads l ls is = by l.expr is
   where
-    by : (e : Expr) → elim e [ BlankLine b ↦ has_pair ls | KeyValLine ws pair tail ↦ true | TableLine ws header tail ↦ false | ArrayTableLine ws header tail ↦ false ] ≡ true → IsNoHeader e
+    by : (e : Expr) → elim e [ BlankLine b ↦ has_pair ls | KeyValLine ws pair tail ↦ true | TableLine ws header tail ↦ false | ArrayTableLine ws header tail ↦ false ] ≡ true → IsHeadless e
     by (BlankLine b) h = tt
     by (KeyValLine ws pair tail) h = tt
     by (TableLine ws header tail) h = absurd (true≢false (sym h))
@@ -43,7 +44,7 @@ pair_full l ls is none = by l.expr is
     by (TableLine ws header tail) h = absurd (true≢false (sym h))
     by (ArrayTableLine ws header tail) h = absurd (true≢false (sym h))
 
-comment_head : (e : Expr) → is_comment e ≡ true → IsNoHeader e
+comment_head : (e : Expr) → is_comment e ≡ true → IsHeadless e
 comment_head (BlankLine b) h = tt
 comment_head (KeyValLine ws pair tail) h = tt
 comment_head (TableLine ws header tail) h = absurd (true≢false (sym h))
@@ -55,7 +56,7 @@ comment_full (KeyValLine ws pair tail) h = tt
 comment_full (TableLine ws header tail) h = absurd (true≢false (sym h))
 comment_full (ArrayTableLine ws header tail) h = absurd (true≢false (sym h))
 
-pub comment_heads : (l : Line) (ls : List Line) → has_comment (l ∷ ls) ≡ true → IsNoHeader l.expr
+pub comment_heads : (l : Line) (ls : List Line) → has_comment (l ∷ ls) ≡ true → IsHeadless l.expr
 comment_heads l ls is = comment_head l.expr is
 
 both_first : (a b : Bool) → (a && b) ≡ true → a ≡ true
@@ -76,11 +77,11 @@ module _ (name : List ℕ) (v : Value) (manner : Manner) where
     pub back : List Line
     pub before : old ≡ front ++ line ∷ back
     pub after : new ≡ front ++ line_behind name v manner line back
-    pub heads : EachIs (λ (m : Line). IsNoHeader m.expr) front
-    pub head : IsNoHeader line.expr
+    pub heads : EachIs (λ (m : Line). IsHeadless m.expr) front
+    pub head : IsHeadless line.expr
     pub full : IsFull line.expr
 
-  module _ (more : List Line → Bool) (none : more [] ≡ false) (heads : (l : Line) (ls : List Line) → more (l ∷ ls) ≡ true → IsNoHeader l.expr)
+  module _ (more : List Line → Bool) (none : more [] ≡ false) (heads : (l : Line) (ls : List Line) → more (l ∷ ls) ≡ true → IsHeadless l.expr)
       (full : (l : Line) (ls : List Line) → more (l ∷ ls) ≡ true → more ls ≡ false → IsFull l.expr) where
     behind_one : (ls : List Line) → more ls ≡ true → IsBehind ls (insert_behind more name v manner ls)
     behind_one [] is = absurd (true≢false (sym is ∙ none))

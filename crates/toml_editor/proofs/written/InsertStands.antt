@@ -1,43 +1,34 @@
 -- The lines after an `insert` at the root, by what finds them.
-use Rattle.std.proofs.Common.{◌≡◌, ℕ, ◌+◌, Bool, true, false, ◌||◌, ◌&&◌, not, cond, Option, Some, None, inl, inr, List, [], ◌∷◌, ◌++◌, length, refl, sym, ap, ap₂, ◌∙◌, subst, true≢false, append-nil}
+use Rattle.std.proofs.Common.{◌≡◌, ℕ, ◌+◌, Bool, true, false, ◌||◌, ◌&&◌, not, cond, Option, Some, None, List, [], ◌∷◌, ◌++◌, length, refl, sym, ap, ap₂, ◌∙◌, true≢false, append-nil}
 use Rattle.std.specs.List.{list_any}
 use Rattle.std.specs.Prelude.{is_some, option_map}
-use Rattle.toml_scalar.specs.Spelling.{spelled}
-use Rattle.toml_tree.specs.Bare.{fresh}
 use Rattle.toml_tree.specs.Spells.{EachIs, AreLines}
 use Rattle.toml_tree.specs.Tree as tree
 use Rattle.toml_tree.specs.Tree.{Piece, Value, Expr, BlankLine, KeyValLine, TableLine, ArrayTableLine, Line}
-use Rattle.toml_text.specs.Forms.{IsNewline}
-use Rattle.toml_names.specs.declared.model.address.Step.TheVariants.{Name}
 use Rattle.toml_names.specs.model.Addresses.{Address, child, element, below}
-use Rattle.toml_names.specs.mentions.Alike.{AreAlike}
-use Rattle.toml_names.specs.mentions.Keys.{Key, key_names, part_name, rest_names, spelled_name}
+use Rattle.toml_names.specs.mentions.Keys.{Key, key_names, part_name, rest_names}
 use Rattle.toml_names.specs.mentions.Mentions.{Named, named_by, root, section, section_from, followed, entered, ends_table, ends_tables}
 use Rattle.toml_names.specs.reader.Names.{own_address}
 use Rattle.toml_units.specs.Units.{line_base}
 use Rattle.toml_working.specs.Inserting as lines
 use Rattle.toml_layout.specs.declared.layout.Layout.{Layout}
 use Rattle.toml_layout.specs.declared.layout.Layout.TheVariants as layouts
-use Rattle.toml_working.specs.InsertStanding.{LeavesRoot, RootIsFirst, comments_end, goes_below, has_comment, has_pair, insert_behind, insert_first, is_blank, is_comment, line_behind, new_standing, new_outline, pair_or, spacing_behind, spacing_of}
+use Rattle.toml_working.specs.InsertStanding.{LeavesRoot, line_put, RootIsFirst, comments_end, goes_below, has_comment, has_pair, insert_behind, insert_first, is_blank, is_comment, line_behind, new_standing, pair_or, spacing_behind, spacing_of}
 use Rattle.toml_working.specs.Manners.{Manner}
-use Rattle.toml_layout.specs.Spacings.{Spacing, laid_out, plain_spacing}
+use Rattle.toml_layout.specs.Spacings.{laid_out, plain_spacing}
 use Rattle.toml_working.specs.Standing.{Standing, holds, leads_to, line_stands, standing_from, standing}
 use Rattle.toml_editor.specs.StandingLaws.{InsertStands, RootComesFirst}
 use Rattle.toml_layout.specs.TreeOutlines.{line_outline, value_outline}
-use Rattle.toml_editor.proofs.written.Alike.{alike_self, alike_pair, section_pair}
-use Rattle.toml_editor.proofs.written.InsertNamed.{spelled_again, stays}
-use Rattle.toml_editor.proofs.written.InsertPlace.{IsNoHeader, below_has, comment_heads, pair_heads}
-use Rattle.toml_editor.proofs.written.UnitsAlike.{base_alike, own_alike, step_alike}
+use Rattle.toml_editor.proofs.written.Alike.{section_pair}
+use Rattle.toml_editor.proofs.written.InsertPlace.{IsHeadless, below_has, comment_heads, pair_heads}
+use Rattle.toml_editor.proofs.written.PutStands.{new_first, put_stands}
 
--- ---- what was named before
-
--- behind alike lists lines stand alike
-pub stand_alike : (ls : List Line) (xs ys : List Named) (n m : ℕ) → AreAlike xs ys → standing_from xs n ls ≡ standing_from ys m ls
-stand_alike [] xs ys n m alike = refl
-stand_alike (l ∷ ls) xs ys n m alike =
-    ap₂ (λ s t. s ∷ t)
-    (ap₂ (λ (a : Option Address) (b : Option ℕ). record { address = a; base = b; outline = line_outline l }) (own_alike xs ys alike l.expr) (base_alike xs ys alike l.expr))
-    (stand_alike ls (xs ++ named_by xs n l.expr) (ys ++ named_by ys m l.expr) (n + 1) (m + 1) (step_alike xs ys n m l.expr alike))
+-- what is no header leaves the root
+stays : (xs : List Named) (n : ℕ) (e : Expr) → section xs ≡ [] → IsHeadless e → section (xs ++ named_by xs n e) ≡ []
+stays xs n (BlankLine t) at_root head = ap section (append-nil xs) ∙ at_root
+stays xs n (KeyValLine ws pair tail) at_root head = section_pair xs n (section xs) pair.assign pair.value ∙ at_root
+stays xs n (TableLine ws header tail) at_root head = absurd head
+stays xs n (ArrayTableLine ws header tail) at_root head = absurd head
 
 -- a line with a key and a value, by its tree
 pair_same : (xs : List Named) (e : Expr) (b : Bool) → pair_or (line_base xs e) (own_address xs e) b
@@ -51,19 +42,6 @@ pub has_same : (ls : List Line) (xs : List Named) (n : ℕ) → has_pair (standi
 has_same [] xs n = refl
 has_same (l ∷ ls) xs n =
     ap (pair_or (line_base xs l.expr) (own_address xs l.expr)) (has_same ls (xs ++ named_by xs n l.expr) (n + 1)) ∙ pair_same xs l.expr (lines.has_pair ls)
-
-newline_same : (e : Expr) (newline : Piece) → (line_outline (record { expr = e; newline = newline })).newline ≡ newline.text
-newline_same (BlankLine t) newline = refl
-newline_same (KeyValLine ws pair tail) newline = refl
-newline_same (TableLine ws header tail) newline = refl
-newline_same (ArrayTableLine ws header tail) newline = refl
-
-ends_same : (e : Expr) (newline other : Piece) → line_outline (record { expr = e; newline = other })
-    ≡ (let o = line_outline (record { expr = e; newline = newline }) in record o { newline = other.text })
-ends_same (BlankLine t) newline other = refl
-ends_same (KeyValLine ws pair tail) newline other = refl
-ends_same (TableLine ws header tail) newline other = refl
-ends_same (ArrayTableLine ws header tail) newline other = refl
 
 -- a comment line, and one on which nothing stands
 some_same : (c : Option Piece) → is_some (option_map (λ (p : Piece). p.text) c) ≡ is_some c
@@ -113,39 +91,18 @@ spacing_same manner xs l = ap (laid_out manner.layout) (by l.expr)
     by (ArrayTableLine ws header tail) = refl
 
 module _ (name : List ℕ) (v : Value) where
-  new_stands : (s : Spacing) (xs : List Named) (newline : List ℕ) → section xs ≡ [] → line_stands xs (lines.new_line s name v newline) ≡ new_standing s name (value_outline v) newline
-  new_stands s xs newline at_root =
-      ap (λ at. record { address = Some (at ++ Name (spelled_name (spelled name)) ∷ []); base = Some (length at); outline = new_outline s name (value_outline v) newline }) at_root
-      ∙ ap (λ m. record { address = Some (Name m ∷ []); base = Some 0; outline = new_outline s name (value_outline v) newline }) (spelled_again name)
-
-  new_first : (s t : Spacing) → t ≡ s → (xs : List Named) (n m : ℕ) (newline : List ℕ) (ls : List Line) → section xs ≡ []
-      → standing_from xs m (lines.new_line s name v newline ∷ ls) ≡ new_standing t name (value_outline v) newline ∷ standing_from xs n ls
-  new_first s t same xs n m newline ls at_root =
-      ap₂ (λ x y. x ∷ y) (new_stands s xs newline at_root ∙ ap (λ x. new_standing x name (value_outline v) newline) (sym same))
-      (sym (stand_alike ls xs (xs ++ named_by xs m (lines.new_expr s name v)) n (m + 1) (alike_pair xs xs (alike_self xs) m (section xs) (lines.new_assign s name) v)))
-
   module _ (manner : Manner) where
-    behind_full : (s : Standing) (newline : List ℕ) → IsNewline newline
-        → line_behind name (value_outline v) manner s newline ≡ s ∷ new_standing (spacing_behind manner s) name (value_outline v) manner.newline ∷ []
-    behind_full s newline (inl is) = ap (line_behind name (value_outline v) manner s) is
-    behind_full s newline (inr is) = ap (line_behind name (value_outline v) manner s) is
-
-    line_put : (xs : List Named) (n : ℕ) (l : Line) (ls : List Line) → AreLines (l ∷ ls) → section (xs ++ named_by xs n l.expr) ≡ []
+    line_stood : (xs : List Named) (n : ℕ) (l : Line) (ls : List Line) → AreLines (l ∷ ls) → section (xs ++ named_by xs n l.expr) ≡ []
         → standing_from xs n (lines.line_behind name v manner l ls)
         ≡ line_behind name (value_outline v) manner (line_stands xs l) (line_outline l).newline ++ standing_from (xs ++ named_by xs n l.expr) (n + 1) ls
-    line_put xs n l [] are at_root =
-        ap₂ (λ o t. record { address = own_address xs l.expr; base = line_base xs l.expr; outline = o } ∷ t) (ends_same l.expr l.newline (fresh manner.newline))
-        (new_first (lines.spacing_behind manner l) (spacing_behind manner (line_stands xs l)) (spacing_same manner xs l) (xs ++ named_by xs n l.expr) 0 (n + 1) [] [] at_root)
-        ∙ ap (λ t. line_behind name (value_outline v) manner (line_stands xs l) t ++ []) (sym (newline_same l.expr l.newline ∙ are.1))
-    line_put xs n l (m ∷ ms) are at_root =
-        ap (λ t. line_stands xs l ∷ t)
-        (new_first (lines.spacing_behind manner l) (spacing_behind manner (line_stands xs l)) (spacing_same manner xs l) (xs ++ named_by xs n l.expr) (n + 1) (n + 1) manner.newline (m ∷ ms) at_root)
-        ∙ ap (λ t. t ++ standing_from (xs ++ named_by xs n l.expr) (n + 1) (m ∷ ms))
-        (sym (behind_full (line_stands xs l) (line_outline l).newline (subst IsNewline (sym (newline_same l.expr l.newline)) are.1)))
+    line_stood xs n l ls are at_root =
+        put_stands [] name v manner (lines.spacing_behind manner l) xs n l ls are at_root
+        ∙ ap (λ s. line_put [] s name (value_outline v) manner (line_stands xs l) (line_outline l).newline ++ standing_from (xs ++ named_by xs n l.expr) (n + 1) ls)
+        (sym (spacing_same manner xs l))
 
     -- behind the last of some lines
     module _ (more : List Line → Bool) (more_so : List Standing → Bool) (same : (ls : List Line) (xs : List Named) (n : ℕ) → more_so (standing_from xs n ls) ≡ more ls)
-        (none : more [] ≡ false) (heads : (l : Line) (ls : List Line) → more (l ∷ ls) ≡ true → IsNoHeader l.expr) where
+        (none : more [] ≡ false) (heads : (l : Line) (ls : List Line) → more (l ∷ ls) ≡ true → IsHeadless l.expr) where
       more_lines : (l : Line) (ls : List Line) → AreLines (l ∷ ls) → more ls ≡ true → AreLines ls
       more_lines l [] are has = absurd (true≢false (sym has ∙ none))
       more_lines l (m ∷ ms) are has = are.2
@@ -169,7 +126,7 @@ module _ (name : List ℕ) (v : Value) where
               → standing_from xs n (cond b (l ∷ lines.insert_behind more name v manner ls) (lines.line_behind name v manner l ls))
               ≡ cond b (line_stands xs l ∷ insert_behind more_so name (value_outline v) manner (standing_from (xs ++ named_by xs n l.expr) (n + 1) ls)) (line_behind name (value_outline v) manner (line_stands xs l) (line_outline l).newline ++ standing_from (xs ++ named_by xs n l.expr) (n + 1) ls)
           by true is others = ap (λ t. line_stands xs l ∷ t) (others is)
-          by false is others = line_put xs n l ls are here
+          by false is others = line_stood xs n l ls are here
 
     first_stands : (ls : List Line) → AreLines ls → standing (lines.insert_first name v manner ls) ≡ insert_first name (value_outline v) manner (standing ls)
     first_stands ls are =
@@ -181,7 +138,7 @@ module _ (name : List ℕ) (v : Value) where
             → standing (cond b (lines.insert_behind lines.has_comment name v manner ls) (lines.new_line plain_spacing name v manner.newline ∷ ls))
             ≡ cond b (insert_behind has_comment name (value_outline v) manner (standing ls)) (new_standing plain_spacing name (value_outline v) manner.newline ∷ standing ls)
         by true is = last_put lines.has_comment has_comment comments_same refl comment_heads ls (root ∷ []) 0 refl (below_has manner.layout ls is) are
-        by false is = new_first plain_spacing plain_spacing refl (root ∷ []) 0 0 manner.newline ls refl
+        by false is = new_first [] name v manner plain_spacing (root ∷ []) 0 0 manner.newline ls refl
 
 pub insert_stands : InsertStands
 insert_stands name v manner ls are =

@@ -2,12 +2,13 @@
 use Rattle.std.proofs.Common.{◌≡◌, inr, ℕ, ◌<◌, ◌+◌, true, Option, Some, None, List, [], ◌∷◌, ◌++◌, length, length-append, refl, sym, ap, ◌∙◌, true≢false, arith}
 use Rattle.std.specs.Prelude.{is_some}
 use Rattle.toml_text.specs.Forms.{IsComment}
-use Rattle.toml_tree.specs.Spells.{EachIs, IsCommentOrNone, IsExpr, Part, joined, equals_parts, assign_parts, comment_parts, key_parts, value_parts, keyval_parts, blank_parts, expr_parts}
-use Rattle.toml_tree.specs.Tree.{Piece, Blank, KeyVal, Expr, BlankLine, KeyValLine, TableLine, ArrayTableLine}
+use Rattle.toml_tree.specs.Spells.{EachIs, IsCommentOrNone, IsExpr, Part, joined, equals_parts, assign_parts, comment_parts, key_parts, value_parts, keyval_parts, header_parts, array_header_parts, blank_parts, expr_parts}
+use Rattle.toml_tree.specs.Tree.{Piece, Blank, Header, KeyVal, Expr, BlankLine, KeyValLine, TableLine, ArrayTableLine}
 use Rattle.toml_tree.proofs.Proved.{parts_join}
 use Rattle.toml_names.specs.mentions.Keys.{key_names}
 use Rattle.toml_names.specs.mentions.Mentions.{Named, section}
 use Rattle.toml_names.specs.model.Addresses.{Address, below}
+use Rattle.toml_names.specs.reader.Names.{own_address}
 use Rattle.toml_units.specs.Places.{is_line}
 use Rattle.toml_units.specs.Units.{TextUnit, comment_units, inside, line_units}
 use Rattle.toml_units.specs.declared.unit.UnitKind.{UnitKind}
@@ -76,6 +77,19 @@ comment_long ws (Some p) some is =
     text_long [] is = absurd is
     text_long (b ∷ bs) is = omega arith
 
+-- and a header its brackets
+table_long : (ws : Piece) (h : Header) (b : Blank) → 0 < length (joined (expr_parts (TableLine ws h b)))
+table_long ws h b =
+    let all = length-append ws.text (joined (header_parts h ++ blank_parts b)) in
+    let some : 0 < length (joined (header_parts h ++ blank_parts b)) = omega arith in
+    omega (arith, all, some)
+
+array_long : (ws : Piece) (h : Header) (b : Blank) → 0 < length (joined (expr_parts (ArrayTableLine ws h b)))
+array_long ws h b =
+    let all = length-append ws.text (joined (array_header_parts h ++ blank_parts b)) in
+    let some : 0 < length (joined (array_header_parts h ++ blank_parts b)) = omega arith in
+    omega (arith, all, some)
+
 pub full_line : (xs : List Named) (e : Expr) → IsFull e → IsExpr e → LastIsFull (line_units xs e)
 full_line xs (KeyValLine ws k b) full form =
     let at = below (section xs) (key_names k.assign.key) in (
@@ -88,5 +102,11 @@ full_line xs (BlankLine b) full form = (
   (λ line none empty. let some = comment_long b.ws.text b.comment full form.1 in let zero = ap length empty in let e : ⊥ = omega (arith, some, zero) in absurd e),
   full_inner (comment_units kinds.TailComment None b.comment) (tail_no_line None b.comment),
 )
-full_line xs (TableLine ws h b) full form = absurd full
-full_line xs (ArrayTableLine ws h b) full form = absurd full
+full_line xs (TableLine ws h b) full form = (
+  (λ line none empty. let some = table_long ws h b in let zero = ap length empty in let e : ⊥ = omega (arith, some, zero) in absurd e),
+  full_inner (comment_units kinds.TailComment (own_address xs (TableLine ws h b)) b.comment) (tail_no_line (own_address xs (TableLine ws h b)) b.comment),
+)
+full_line xs (ArrayTableLine ws h b) full form = (
+  (λ line none empty. let some = array_long ws h b in let zero = ap length empty in let e : ⊥ = omega (arith, some, zero) in absurd e),
+  full_inner (comment_units kinds.TailComment (own_address xs (ArrayTableLine ws h b)) b.comment) (tail_no_line (own_address xs (ArrayTableLine ws h b)) b.comment),
+)

@@ -1,52 +1,42 @@
--- In the lines of a document a new line of a table with a header has one place.
-use Rattle.std.proofs.Common.{◌≡◌, ◌∙◌, ◌⊎◌, inl, inr, ℕ, zero, suc, ◌+◌, ◌==◌, Bool, true, false, ◌&&◌, ◌||◌, Option, Some, None, List, [], ◌∷◌, ◌++◌, map, length, length-append, refl, sym, ap, ap₂, subst, true≢false, append_assoc, append-nil, arith}
+-- Lines in sections: below a header a new line has one place.
+use Rattle.std.proofs.Common.{◌≡◌, ◌∙◌, ◌⊎◌, inl, inr, ℕ, ◌==◌, Bool, true, false, ◌||◌, Option, Some, None, List, [], ◌∷◌, ◌++◌, length, refl, sym, ap, ap₂, subst, true≢false, append_assoc, arith}
 use Rattle.std.specs.List.{list_any}
 use Rattle.std.proofs.lemmas.Bool.{and_parts, eqb-true}
-use Rattle.std.proofs.lemmas.Bool.Decides.{nat_tests}
-use Rattle.std.proofs.lemmas.Option.{same_Some}
 use Rattle.toml_tree.specs.Spells.{EachIs}
-use Rattle.toml_tree.specs.Tree.{Expr, BlankLine, KeyValLine, TableLine, ArrayTableLine, Line}
-use Rattle.toml_names.specs.declared.model.address.Step.TheVariants.{Name}
-use Rattle.toml_names.specs.mentions.Keys.{key_names}
-use Rattle.toml_names.specs.mentions.Mentions.{Named, named, named_by, named_from, root, section}
-use Rattle.toml_names.specs.mentions.OwnAddresses.{IsHeaderLine}
-use Rattle.toml_names.specs.mentions.Rules.{KeepsRules}
+use Rattle.toml_names.specs.mentions.Mentions.{root}
 use Rattle.toml_names.specs.model.Addresses.{Address, same_step, same_address}
-use Rattle.toml_names.specs.reader.Names.{own_address, line_address}
-use Rattle.toml_names.proofs.Proved.{header_is_section, line_addresses, own_addresses_differ, same_step-equal, same_step-self}
-use Rattle.toml_units.specs.Units.{line_base}
+use Rattle.toml_names.proofs.Proved.{same_step-equal}
 use Rattle.toml_layout.specs.Beginnings.{begins}
-use Rattle.toml_working.specs.declared.lines.Sought.TheVariants as kinds
+use Rattle.toml_working.specs.declared.lines.Sought.TheVariants as sought
 use Rattle.toml_working.specs.InsertStanding.{has_pair, pair_or}
 use Rattle.toml_working.specs.Placing.{IsNoHeader, IsPair, is_header}
-use Rattle.toml_working.specs.Sections.{IsBehindHeader, StandsBelow, is_of_section, stands_in}
+use Rattle.toml_working.specs.Sections.{StandsBelow, is_of_section, stands_in}
 use Rattle.toml_working.specs.Seeing.{heads, is_sought_line}
-use Rattle.toml_working.specs.Standing.{Standing, line_stands, standing, standing_from}
-use Rattle.toml_editor.proofs.written.Alike.{section_pair}
+use Rattle.toml_working.specs.Standing.{Standing}
 use Rattle.toml_editor.proofs.written.Clear.{same_is, self}
 
 -- ---- sections
 
 -- the table in whose section the lines behind a line stand
-abbrev section_behind : Address → Option ℕ → Option Address → Address
+abbrev pub section_behind : Address → Option ℕ → Option Address → Address
 section_behind q (Some n) own = q
 section_behind q None None = q
 section_behind q None (Some a) = a
 
-abbrev section_over : Address → List Standing → Address
+abbrev pub section_over : Address → List Standing → Address
 section_over q [] = q
 section_over q (s ∷ ss) = section_over (section_behind q s.base s.address) ss
 
 -- a line with a key and a value stands in the section of the table, and so does each one in that of the last header
-abbrev StandsIn : Address → Standing → Type 0
+abbrev pub StandsIn : Address → Standing → Type 0
 StandsIn q s = IsPair s → is_of_section q s ≡ true
 
-abbrev AreSectioned : Address → List Standing → Type 0
+abbrev pub AreSectioned : Address → List Standing → Type 0
 AreSectioned q [] = Unit {0}
 AreSectioned q (s ∷ ss) = StandsIn q s × AreSectioned (section_behind q s.base s.address) ss
 
-abbrev Heads : Address → Standing → Type 0
-Heads q s = is_sought_line kinds.Header q s ≡ true
+abbrev pub Heads : Address → Standing → Type 0
+Heads q s = is_sought_line sought.Header q s ≡ true
 
 over_append : (front back : List Standing) (q : Address) → section_over q (front ++ back) ≡ section_over (section_over q front) back
 over_append [] back q = refl
@@ -69,7 +59,7 @@ bare_section r (Some n) own not = refl
 bare_section r None None not = refl
 bare_section r None (Some a) not = cc
 
-over_between : (ss : List Standing) (q : Address) → EachIs IsNoHeader ss → section_over q ss ≡ q
+pub over_between : (ss : List Standing) (q : Address) → EachIs IsNoHeader ss → section_over q ss ≡ q
 over_between [] q none = refl
 over_between (s ∷ ss) q none = ap (λ r. section_over r ss) (bare_section q s.base s.address none.0) ∙ over_between ss q none.1
 
@@ -154,7 +144,7 @@ same_begin (s ∷ q) (t ∷ r) (u ∷ a) h k long =
     ap₂ (λ x y. x ∷ y) (same_step-equal s u hs ∙ sym (same_step-equal t u ks)) (same_begin q r a hq kr (omega (arith, long)))
 
 -- the line is that table's header, or has a key and a value
-abbrev IsEither : Address → Standing → Type 0
+abbrev pub IsEither : Address → Standing → Type 0
 IsEither q s = Heads q s ⊎ IsPair s
 
 in_section : (q : Address) (s : Standing) → is_of_section q s ≡ true → IsPair s
@@ -175,7 +165,7 @@ one_section q r s here there = by s.base s.address here there
         let (longer, beginning) = and_parts (n == length r) (begins r a) k in
         same_begin q r a begin beginning (sym (eqb-true n (length q) long) ∙ eqb-true n (length r) longer)
 
-stands_below : (q r : Address) (front : List Standing) (s : Standing) (back : List Standing) → AreSectioned r (front ++ s ∷ back) → StandsBelow q front s
+pub stands_below : (q r : Address) (front : List Standing) (s : Standing) (back : List Standing) → AreSectioned r (front ++ s ∷ back) → StandsBelow q front s
     → (section_over r (front ++ s ∷ []) ≡ q) × IsEither q s
 stands_below q r front s back are (inl heads_it) = (over_append front (s ∷ []) r ∙ heads_section q (section_over r front) s.base s.address heads_it, inl heads_it)
 stands_below q r front s back are (inr (inl of_section)) =
@@ -191,7 +181,7 @@ stands_below q r front s back are (inr (inr ((n, is), (before, h, between, split
 )
 
 -- no two lines are headers of one table
-abbrev HeadersDiffer : List Standing → Type 0
+abbrev pub HeadersDiffer : List Standing → Type 0
 HeadersDiffer ss = (q : Address) (front : List Standing) (s : Standing) (mid : List Standing) (t : Standing) (back : List Standing)
     → ss ≡ front ++ s ∷ (mid ++ t ∷ back) → Heads q s → Heads q t → ⊥
 
@@ -271,151 +261,3 @@ two_places (f ∷ front) (o ∷ other) x y back rest is =
       | inr (inl later) ↦ inr (inl (record { mid = later.mid; front_is = ap₂ (λ a b. a ∷ b) (sym e) later.front_is; back_is = later.back_is }))
       | inr (inr later) ↦ inr (inr (record { mid = later.mid; front_is = ap₂ (λ a b. a ∷ b) e later.front_is; back_is = later.back_is }))
     ]
-
--- ---- the lines of a document
-
-nat_self : (n : ℕ) → (n == n) ≡ true
-nat_self n = let e : (n == n) ≡ true = grind (arith, nat_tests) in e
-
-begins_longer : (q r : Address) → begins q (q ++ r) ≡ true
-begins_longer [] r = refl
-begins_longer (s ∷ q) r = ap (λ b. b && begins q (q ++ r)) (same_step-self s) ∙ begins_longer q r
-
-named_on : (bs : List Line) (xs : List Named) (n : ℕ) (l : Line) → named_from xs n (bs ++ l ∷ []) ≡ named_from xs n bs ++ named_by (named_from xs n bs) (n + length bs) l.expr
-named_on [] xs n l = ap (λ k. xs ++ named_by xs k l.expr) (let e : n ≡ n + 0 = omega arith in e)
-named_on (b ∷ bs) xs n l =
-    named_on bs (xs ++ named_by xs n b.expr) (n + 1) l
-    ∙ ap (λ k. named_from (xs ++ named_by xs n b.expr) (n + 1) bs ++ named_by (named_from (xs ++ named_by xs n b.expr) (n + 1) bs) k l.expr)
-    (let e : (n + 1) + length bs ≡ n + suc (length bs) = omega arith in e)
-
-named_next : (before : List Line) (l : Line) → named (before ++ l ∷ []) ≡ named before ++ named_by (named before) (length before) l.expr
-named_next before l =
-    named_on before (root ∷ []) 0 l ∙ ap (λ k. named before ++ named_by (named before) k l.expr) (let e : 0 + length before ≡ length before = omega arith in e)
-
-section_line : (before : List Line) (l : Line) → section_behind (section (named before)) (line_base (named before) l.expr) (own_address (named before) l.expr)
-    ≡ section (named (before ++ l ∷ []))
-section_line before l = by l.expr refl
-  where
-    xs : List Named
-    xs = named before
-
-    over : section (named (before ++ l ∷ [])) ≡ section (xs ++ named_by xs (length before) l.expr)
-    over = ap section (named_next before l)
-
-    header : IsHeaderLine l.expr → (a : Address) → own_address xs l.expr ≡ Some a → a ≡ section (named (before ++ l ∷ []))
-    header head a own = same_Some a _ (sym own ∙ header_is_section before l head)
-
-    by : (e : Expr) → l.expr ≡ e → section_behind (section xs) (line_base xs e) (own_address xs e) ≡ section (named (before ++ l ∷ []))
-    by (BlankLine b) is = sym (over ∙ ap (λ e. section (xs ++ named_by xs (length before) e)) is ∙ ap section (append-nil xs))
-    by (KeyValLine ws pair tail) is =
-        sym (over ∙ ap (λ e. section (xs ++ named_by xs (length before) e)) is ∙ section_pair xs (length before) (section xs) pair.assign pair.value)
-    by (TableLine ws h tail) is = header (subst IsHeaderLine (sym is) tt) _ (ap (own_address xs) is)
-    by (ArrayTableLine ws h tail) is = header (subst IsHeaderLine (sym is) tt) _ (ap (own_address xs) is)
-
-line_in_section : (xs : List Named) (l : Line) → StandsIn (section xs) (line_stands xs l)
-line_in_section xs l (n, is) = by l.expr refl
-  where
-    by : (e : Expr) → l.expr ≡ e → stands_in (section xs) (line_base xs l.expr) (own_address xs l.expr) ≡ true
-    by (KeyValLine ws pair tail) e =
-        ap (λ x. stands_in (section xs) (line_base xs x) (own_address xs x)) e
-        ∙ ap₂ (λ a b. a && b) (nat_self (length (section xs))) (begins_longer (section xs) (map Name (key_names pair.assign.key)))
-    by (BlankLine b) e = none (sym (ap (line_base xs) e) ∙ is)
-      where
-        none : None ≡ Some n → stands_in (section xs) (line_base xs l.expr) (own_address xs l.expr) ≡ true
-        none x = cc
-    by (TableLine ws h tail) e = none (sym (ap (line_base xs) e) ∙ is)
-      where
-        none : None ≡ Some n → stands_in (section xs) (line_base xs l.expr) (own_address xs l.expr) ≡ true
-        none x = cc
-    by (ArrayTableLine ws h tail) e = none (sym (ap (line_base xs) e) ∙ is)
-      where
-        none : None ≡ Some n → stands_in (section xs) (line_base xs l.expr) (own_address xs l.expr) ≡ true
-        none x = cc
-
-sectioned_from : (ls before : List Line) → AreSectioned (section (named before)) (standing_from (named before) (length before) ls)
-sectioned_from [] before = tt
-sectioned_from (l ∷ ls) before =
-    let more = sectioned_from ls (before ++ l ∷ []) in
-    let names = named_next before l in (
-      line_in_section (named before) l,
-      subst (λ r. AreSectioned r (standing_from (named before ++ named_by (named before) (length before) l.expr) (length before + 1) ls)) (sym (section_line before l))
-          (subst (λ k. AreSectioned (section (named (before ++ l ∷ []))) (standing_from (named before ++ named_by (named before) (length before) l.expr) k ls))
-          (length-append before (l ∷ []))
-          (subst (λ xs. AreSectioned (section (named (before ++ l ∷ []))) (standing_from xs (length (before ++ l ∷ [])) ls)) names more)),
-    )
-
-pub document_sectioned : (lines : List Line) → AreSectioned [] (standing lines)
-document_sectioned lines = sectioned_from lines []
-
--- a line of the document and those before it, for one of the lines by what finds them
-pub record IsLineOf (before ls : List Line) (front : List Standing) (s : Standing) (back : List Standing) : Type 0 where
-  pub first : List Line
-  pub line : Line
-  pub rest : List Line
-  pub lines_are : ls ≡ first ++ line ∷ rest
-  pub is : s ≡ line_stands (named (before ++ first)) line
-  pub back_is : back ≡ standing_from (named ((before ++ first) ++ line ∷ [])) (length ((before ++ first) ++ line ∷ [])) rest
-
-line_first : (l : Line) (ls before : List Line) (s : Standing) (back : List Standing) → line_stands (named before) l ≡ s
-    → standing_from (named (before ++ l ∷ [])) (length (before ++ l ∷ [])) ls ≡ back → IsLineOf before (l ∷ ls) [] s back
-line_first l ls before s back here rest = record {
-  first = [];
-  line = l;
-  rest = ls;
-  lines_are = refl;
-  is = sym here ∙ ap (λ bs. line_stands (named bs) l) (sym (append-nil before));
-  back_is = sym rest ∙ ap (λ bs. standing_from (named (bs ++ l ∷ [])) (length (bs ++ l ∷ [])) ls) (sym (append-nil before));
-}
-
-line_later : (l : Line) (ls before : List Line) (f : Standing) (front : List Standing) (s : Standing) (back : List Standing) → IsLineOf (before ++ l ∷ []) ls front s back
-    → IsLineOf before (l ∷ ls) (f ∷ front) s back
-line_later l ls before f front s back more =
-    let regrouped : (before ++ l ∷ []) ++ more.first ≡ before ++ l ∷ more.first = append_assoc before (l ∷ []) more.first in
-    record {
-      first = l ∷ more.first;
-      line = more.line;
-      rest = more.rest;
-      lines_are = ap (λ r. l ∷ r) more.lines_are;
-      is = more.is ∙ ap (λ bs. line_stands (named bs) more.line) regrouped;
-      back_is = more.back_is ∙ ap (λ bs. standing_from (named (bs ++ more.line ∷ [])) (length (bs ++ more.line ∷ [])) more.rest) regrouped;
-    }
-
-pub line_of : (front : List Standing) (ls before : List Line) (s : Standing) (back : List Standing) → standing_from (named before) (length before) ls ≡ front ++ s ∷ back
-    → IsLineOf before ls front s back
-line_of [] [] before s back is = cc
-line_of (f ∷ front) [] before s back is = cc
-line_of [] (l ∷ ls) before s back is =
-    let here : line_stands (named before) l ≡ s = cc in
-    let rest : standing_from (named before ++ named_by (named before) (length before) l.expr) (length before + 1) ls ≡ back = cc in
-    line_first l ls before s back here (ap₂ (λ xs k. standing_from xs k ls) (named_next before l) (length-append before (l ∷ [])) ∙ rest)
-line_of (f ∷ front) (l ∷ ls) before s back is =
-    let rest : standing_from (named before ++ named_by (named before) (length before) l.expr) (length before + 1) ls ≡ front ++ s ∷ back = cc in
-    line_later l ls before f front s back
-    (line_of front ls (before ++ l ∷ []) s back (ap₂ (λ xs k. standing_from xs k ls) (named_next before l) (length-append before (l ∷ [])) ∙ rest))
-
-pub headed_at : (q : Address) (base : Option ℕ) (own : Option Address) → heads q base own ≡ true → own ≡ Some q
-headed_at q (Some n) own h = cc
-headed_at q None None h = cc
-headed_at q None (Some a) h = ap Some (same_is a q h)
-
-same_lines : (lines : List Line) → KeepsRules (named lines) → (q : Address) (front : List Standing) (s : Standing) (mid : List Standing) (t : Standing) (back : List Standing)
-    → (one : IsLineOf [] lines front s (mid ++ t ∷ back)) → IsLineOf (one.first ++ one.line ∷ []) one.rest mid t back → s.address ≡ Some q → t.address ≡ Some q → ⊥
-same_lines lines keeps q front s mid t back one two first second =
-    let before = one.first ++ one.line ∷ two.first in
-    let whole : lines ≡ before ++ two.line ∷ two.rest =
-    one.lines_are ∙ ap (λ r. one.first ++ one.line ∷ r) two.lines_are ∙ sym (append_assoc one.first (one.line ∷ two.first) (two.line ∷ two.rest)) in
-    let at_one : line_address (named lines) (length one.first) ≡ Some q =
-    ap (λ ls. line_address (named ls) (length one.first)) one.lines_are ∙ line_addresses one.first one.rest one.line
-    ∙ ap (λ (x : Standing). x.address) (sym one.is) ∙ first in
-    let at_two : line_address (named lines) (length before) ≡ Some q =
-    ap (λ ls. line_address (named ls) (length before)) whole ∙ line_addresses before two.rest two.line
-    ∙ ap (λ bs. own_address (named bs) two.line.expr) (sym (append_assoc one.first (one.line ∷ []) two.first)) ∙ ap (λ (x : Standing). x.address) (sym two.is) ∙ second in
-    let same : length one.first ≡ length before = own_addresses_differ lines (length one.first) (length before) q keeps at_one at_two in
-    let longer : length before ≡ length one.first + length (one.line ∷ two.first) = length-append one.first (one.line ∷ two.first) in
-    omega (arith, same, longer)
-
-pub headers_differ : (lines : List Line) → KeepsRules (named lines) → HeadersDiffer (standing lines)
-headers_differ lines keeps q front s mid t back split first second =
-    let one = line_of front lines [] s (mid ++ t ∷ back) split in
-    same_lines lines keeps q front s mid t back one (line_of mid one.rest (one.first ++ one.line ∷ []) t back (sym one.back_is))
-    (headed_at q s.base s.address first) (headed_at q t.base t.address second)

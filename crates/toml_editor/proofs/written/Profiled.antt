@@ -8,7 +8,8 @@ use Rattle.toml_names.specs.mentions.Keys.{key_names}
 use Rattle.toml_names.specs.mentions.Mentions.{Named, named_by, root, section}
 use Rattle.toml_names.specs.model.Addresses.{Address, same_address, element, below}
 use Rattle.toml_editor.specs.InsertLaws.{InsertOfProfile}
-use Rattle.toml_working.specs.Inserting.{line_behind, insert_lines}
+use Rattle.toml_working.specs.Inserting.{line_put}
+use Rattle.toml_layout.specs.Spacings.{Spacing}
 use Rattle.toml_working.specs.Manners.{Manner}
 use Rattle.toml_working.specs.Lines.{lines_from}
 use Rattle.toml_editor.specs.RemoveLaws.{RemoveOfProfile}
@@ -18,7 +19,7 @@ use Rattle.toml_working.specs.Renaming.{rename_value, rename_items, rename_pairs
 use Rattle.toml_editor.specs.SetLaws.{SetOfProfile}
 use Rattle.toml_working.specs.Setting.{set_within, set_items, set_pairs, set_expr, set_line}
 use Rattle.toml_editor.proofs.Each.{each_append}
-use Rattle.toml_editor.proofs.written.InsertPlace.{insert_place}
+use Rattle.toml_editor.proofs.written.InsertPlaces.{IsPlace, insert_in_place}
 use Rattle.toml_editor.proofs.written.RemoveKept.{two_ways}
 
 abbrev ArePlain : List Line → Type 0
@@ -80,23 +81,21 @@ set_of_profile Two p new lines is good = tt
 -- ---- insert
 
 module _ (name : List ℕ) (v : Value) (manner : Manner) (plain : HasPlainTables v) where
-  behind_plain : (l : Line) (ls : List Line) → ArePlain (l ∷ ls) → ArePlain (line_behind name v manner l ls)
-  behind_plain l [] is = (is.0, (plain, tt))
-  behind_plain l (m ∷ ms) is = (is.0, (plain, is.1))
+  behind_plain : (s : Spacing) (l : Line) (ls : List Line) → ArePlain (l ∷ ls) → ArePlain (line_put s name v manner l ls)
+  behind_plain s l [] is = (is.0, (plain, tt))
+  behind_plain s l (m ∷ ms) is = (is.0, (plain, is.1))
 
-  at_plain : (front back : List Line) (l : Line) → ArePlain (front ++ l ∷ back) → ArePlain (front ++ line_behind name v manner l back)
-  at_plain [] back l is = behind_plain l back is
-  at_plain (m ∷ front) back l is = (is.0, at_plain front back l is.1)
+  at_plain : (s : Spacing) (front back : List Line) (l : Line) → ArePlain (front ++ l ∷ back) → ArePlain (front ++ line_put s name v manner l back)
+  at_plain s [] back l is = behind_plain s l back is
+  at_plain s (m ∷ front) back l is = (is.0, at_plain s front back l is.1)
 
-  insert_plain : (ls : List Line) → ArePlain ls → ArePlain (insert_lines name v manner ls)
-  insert_plain ls is = elim (insert_place name v manner ls) [
-    | inl first ↦ subst ArePlain (sym first) (plain, is)
-    | inr found ↦ subst ArePlain (sym found.after) (at_plain found.front found.back found.line (subst ArePlain found.before is))
-  ]
+  insert_plain : (q : Address) (ls new : List Line) → IsPlace q name v manner ls new → ArePlain ls → ArePlain new
+  insert_plain q ls new (inl (at_root, first)) is = subst ArePlain (sym first) (plain, is)
+  insert_plain q ls new (inr found) is = subst ArePlain (sym found.is) (at_plain found.spacing found.front found.back found.line (subst ArePlain found.was is))
 
 pub insert_of_profile : InsertOfProfile
-insert_of_profile One name v manner lines is good = insert_plain name v manner good lines is
-insert_of_profile Two name v manner lines is good = tt
+insert_of_profile One q name v manner lines there is good = insert_plain name v manner good q lines _ (insert_in_place q name v manner lines there) is
+insert_of_profile Two q name v manner lines there is good = tt
 
 -- ---- remove
 

@@ -17,11 +17,11 @@ use Rattle.toml_edits.specs.After.{IsAfter}
 use Rattle.toml_edits.specs.Carry.{Carrier, carry, carry_below, nowhere, removing}
 use Rattle.toml_edits.specs.Edits.{remove}
 use Rattle.toml_edits.proofs.Proved.{parted_at_last}
-use Rattle.toml_editor.specs.Blocks.{IsPut, pair_at, named_plain}
+use Rattle.toml_editor.specs.Blocks.{IsPut, value_block, named_plain}
 use Rattle.toml_editor.specs.RemoveLaws.{RemoveForms, RemoveGood, RemoveData}
 use Rattle.toml_working.specs.Lines.{lines_from}
 use Rattle.toml_working.specs.Removing.{remove_line, remove_lines, left_behind, empty_line}
-use Rattle.toml_working.specs.Written.{HasLine}
+use Rattle.toml_working.specs.Written.{HasUndottedLine}
 use Rattle.toml_editor.proofs.written.BlockFacts.{each_old, has_old, has_new}
 use Rattle.toml_editor.proofs.written.Clear.{IsUnder}
 use Rattle.toml_editor.proofs.Each.{each_append, each_back, each_weaker}
@@ -72,19 +72,19 @@ remove_forms p lines is = lines_formed p lines (root ∷ []) 0 is
 
 -- ---- rules
 
-remove_rules : (p : Address) (lines : List Line) → HasLine lines p → KeepsRules (named lines) → KeepsRules (named (remove_lines p lines))
+remove_rules : (p : Address) (lines : List Line) → HasUndottedLine lines p → KeepsRules (named lines) → KeepsRules (named (remove_lines p lines))
 remove_rules p lines there keeps =
     let found = remove_names p lines there keeps in
     let put = found.1 in
     (rules_plain (remove_lines p lines)).1
-    (subst KeepsRules (sym put.before) (some_keep_rules put.front (pair_at p found.0) put.back (subst KeepsRules put.after ((rules_plain lines).0 keeps))))
+    (subst KeepsRules (sym put.before) (some_keep_rules put.front (value_block p found.0) put.back (subst KeepsRules put.after ((rules_plain lines).0 keeps))))
 
 pub remove_good : RemoveGood
 remove_good p lines there good =
     let found = remove_names p lines there good.0 in
     let lines' = remove_lines p lines in (
       remove_rules p lines there good.0,
-      plain_short lines' (each_old (named_plain lines') (pair_at p found.0) (named_plain lines) found.1 _ (short_plain lines good.1)),
+      plain_short lines' (each_old (named_plain lines') (value_block p found.0) (named_plain lines) found.1 _ (short_plain lines good.1)),
     )
 
 -- ---- data
@@ -93,17 +93,17 @@ abbrev Apart : Address → Named → Type 0
 Apart p m = ¬ (m.address ≡ p)
 
 -- beside the pair nothing is at its address
-apart_rest : (p : Address) (v : Value) (old new : List Named) → IsPut old (pair_at p v) new → PairsAre Alone new → EachIs (Apart p) old
+apart_rest : (p : Address) (v : Value) (old new : List Named) → IsPut old (value_block p v) new → PairsAre Alone new → EachIs (Apart p) old
 apart_rest p v old new put alone =
     let parts = subst (PairsAre Alone) put.after alone in
-    let behind = (pairs_back Alone put.front (pair_at p v ++ put.back) parts).0 in
+    let behind = (pairs_back Alone put.front (value_block p v ++ put.back) parts).0 in
     subst (EachIs (Apart p)) (sym put.before)
     (each_append (Apart p) put.front put.back
-    (each_weaker (λ x. EachIs (Alone x) (pair_at p v ++ put.back)) (Apart p) (λ x h here. true≢false ((h.0 here).1)) put.front (pairs_between Alone put.front (pair_at p v ++ put.back) parts))
+    (each_weaker (λ x. EachIs (Alone x) (value_block p v ++ put.back)) (Apart p) (λ x h here. true≢false ((h.0 here).1)) put.front (pairs_between Alone put.front (value_block p v ++ put.back) parts))
     (each_weaker (Alone (value_named 0 Valued p v)) (Apart p) (λ x h here. true≢false ((h (sym here)).0)) put.back (each_back (Alone (value_named 0 Valued p v)) (inside 0 p v) put.back behind)))
 
 -- so nothing that is left is named at it or below it
-pub left_clear : (p : Address) (lines : List Line) → HasLine lines p → KeepsRules (named lines) → EachIs (λ m. IsClear p m.address) (named (remove_lines p lines))
+pub left_clear : (p : Address) (lines : List Line) → HasUndottedLine lines p → KeepsRules (named lines) → EachIs (λ m. IsClear p m.address) (named (remove_lines p lines))
 left_clear p lines there keeps =
     let lines' = remove_lines p lines in
     let found = remove_names p lines there keeps in
@@ -122,7 +122,7 @@ carried_below (s ∷ q) r (t ∷ a) c = ap (λ o. cond (same_step s t) (option_m
 pub removed_below : (table : Address) (name : List ℕ) (a : Address) → carry (remove (child table name)) a ≡ carry_below (child table name) nowhere a
 removed_below table name a = ap (λ o. removing o a) (parted_at_last table (Name name)) ∙ carried_below table (Name name ∷ []) a nowhere
 
-data_removed : (profile : Profile) (table : Address) (name : List ℕ) (lines : List Line) (old after : Kinds) → HasLine lines (child table name)
+data_removed : (profile : Profile) (table : Address) (name : List ℕ) (lines : List Line) (old after : Kinds) → HasUndottedLine lines (child table name)
     → KeepsRules (named lines) → IsDataOf (named lines) old → IsDataOf (named (remove_lines (child table name) lines)) after
     → IsAfter profile (remove (child table name)) old after
 data_removed profile table name lines old after there keeps is is' =
@@ -136,9 +136,9 @@ data_removed profile table name lines old after there keeps is is' =
       carried = λ a b k have to.
           let go = carried_clear p b a (sym (removed_below table name b) ∙ to) in
           let fact : Has (F p v b k) (named_plain lines) = has_plain lines (F p v b k) (has_of_any _ (named lines) ((is b k).0 have)) in
-          let left : Has (F p v b k) (named_plain lines') = elim (has_new (named_plain lines') (pair_at p v) (named_plain lines) put (F p v b k) fact) [
+          let left : Has (F p v b k) (named_plain lines') = elim (has_new (named_plain lines') (value_block p v) (named_plain lines) put (F p v b k) fact) [
             | inl w ↦ w
-            | inr w ↦ absurd (from_has (λ m. IsUnder p m.address) (F p v b k) ⊥ (λ m under f. clear_under p b go.1 (subst (IsUnder p) f.0 under)) (pair_at p v) (block_under p v 0) w)
+            | inr w ↦ absurd (from_has (λ m. IsUnder p m.address) (F p v b k) ⊥ (λ m under f. clear_under p b go.1 (subst (IsUnder p) f.0 under)) (value_block p v) (block_under p v 0) w)
           ] in
           ap after go.0 ∙ (is' b k).1 (any_of_has _ (named lines') (plain_has lines' (F p v b k) left));
       placed = λ r k have. cc;
@@ -147,7 +147,7 @@ data_removed profile table name lines old after there keeps is is' =
           let cleared : IsClear p a = from_has (λ m. IsClear p m.address) (F p v a k) (IsClear p a) (λ m c f. subst (IsClear p) f.0 c) (named_plain lines') clear fact in
           inl (
             a,
-            (is a k).1 (any_of_has _ (named lines) (plain_has lines (F p v a k) (has_old (named_plain lines') (pair_at p v) (named_plain lines) put (F p v a k) fact))),
+            (is a k).1 (any_of_has _ (named lines) (plain_has lines (F p v a k) (has_old (named_plain lines') (value_block p v) (named_plain lines) put (F p v a k) fact))),
             removed_below table name a ∙ clear_carried p a cleared,
           );
     }
@@ -156,4 +156,4 @@ pub remove_data : RemoveData
 remove_data profile p lines old after there keeps is is' =
     let (table, name, at) = line_parts p lines there in
     subst (λ q. IsAfter profile (remove q) old after) (sym at)
-    (data_removed profile table name lines old after (subst (HasLine lines) at there) keeps is (subst (λ q. IsDataOf (named (remove_lines q lines)) after) at is'))
+    (data_removed profile table name lines old after (subst (HasUndottedLine lines) at there) keeps is (subst (λ q. IsDataOf (named (remove_lines q lines)) after) at is'))

@@ -1,5 +1,5 @@
 -- What is named after the `remove` of a line.
-use Rattle.std.proofs.Common.{◌≡◌, ℕ, ◌+◌, ◌==◌, ◌&&◌, ◌||◌, Bool, true, false, cond, ◌⊎◌, inl, inr, Option, Some, List, [], ◌∷◌, ◌++◌, map, length, refl, sym, ap, ap₂, ◌∙◌, subst, subst₂, true≢false, append-nil, length-append, arith}
+use Rattle.std.proofs.Common.{◌≡◌, ℕ, ◌+◌, ◌==◌, ◌&&◌, ◌||◌, Bool, true, false, cond, ◌⊎◌, inl, inr, Option, List, [], ◌∷◌, ◌++◌, map, length, refl, sym, ap, ap₂, ◌∙◌, subst, subst₂, true≢false, append-nil, length-append, arith}
 use Rattle.std.proofs.lemmas.Bool.{and_parts, cond-true, cond-false, eqb-true}
 use Rattle.std.specs.List.{list_any}
 use Rattle.toml_tree.specs.Spells.{EachIs}
@@ -15,12 +15,12 @@ use Rattle.toml_names.specs.mentions.Alike.{AreAlike}
 use Rattle.toml_names.specs.mentions.Rules.{KeepsRules}
 use Rattle.toml_names.proofs.Proved.{line_values_stand_alone}
 use Rattle.toml_units.specs.Units.{line_units}
-use Rattle.toml_editor.specs.UnitBlocks.{pair_line}
-use Rattle.toml_editor.specs.Blocks.{IsPut, named_plain, pair_at}
+use Rattle.toml_editor.specs.UnitBlocks.{pair_line_units}
+use Rattle.toml_editor.specs.Blocks.{IsPut, named_plain, value_block}
 use Rattle.toml_editor.specs.RemoveLaws.{RemoveNames, RemoveKeepsLines, HasValueAt}
 use Rattle.toml_working.specs.Lines.{lines_from}
 use Rattle.toml_working.specs.Standing.{line_stands, standing_from}
-use Rattle.toml_working.specs.Written.{HasLine}
+use Rattle.toml_working.specs.Written.{HasUndottedLine}
 use Rattle.toml_working.specs.Removing.{remove_line, remove_lines, left_behind, empty_line}
 use Rattle.toml_working.specs.RemoveStanding.{is_undotted_pair}
 use Rattle.toml_editor.proofs.written.Alike.{alike_self, alike_pair}
@@ -63,9 +63,9 @@ module _ (table : Address) (name : List ℕ) where
     pub own : HasValueAt p xs l.expr
     pub value : Value
     pub gone : remove_line p xs l ≡ left_behind l
-    pub names : (ys : List Named) → AreAlike xs ys → named_by ys 0 l.expr ≡ pair_at p value
-    pub alike : (ys : List Named) → AreAlike xs ys → AreAlike ys (ys ++ pair_at p value)
-    pub units : (piece : Piece) × (comment : Option Piece) × (line_units xs l.expr ≡ pair_line piece p (length table) value comment)
+    pub names : (ys : List Named) → AreAlike xs ys → named_by ys 0 l.expr ≡ value_block p value
+    pub alike : (ys : List Named) → AreAlike xs ys → AreAlike ys (ys ++ value_block p value)
+    pub units : (piece : Piece) × (comment : Option Piece) × (line_units xs l.expr ≡ pair_line_units piece p (length table) value comment)
 
   -- a dotted key has the value
   pub record Is_dotted (xs : List Named) (l : Line) : Type 0 where
@@ -101,7 +101,7 @@ module _ (table : Address) (name : List ℕ) where
           at_length same true long =
               let (tables, names, more) = one_step (section xs) table name (part_name pair.assign.key.first) (rest_names pair.assign.key.rest) (same_is to p same) (eqb-true _ _ long) in
               let key : key_names pair.assign.key ≡ name ∷ [] = ap₂ (λ n ns. n ∷ ns) names more in
-              let pair_is : (ys : List Named) → AreAlike xs ys → pair_named 0 (section ys) pair.assign pair.value ≡ pair_at p pair.value = λ ys alike.
+              let pair_is : (ys : List Named) → AreAlike xs ys → pair_named 0 (section ys) pair.assign pair.value ≡ value_block p pair.value = λ ys alike.
               ap (λ s. pair_named 0 s pair.assign pair.value) (sym alike.sections ∙ tables)
               ∙ ap (λ k. fronts 0 table k ++ (value_named 0 Valued (below table k) pair.value ∷ inside 0 (below table k) pair.value)) key in
               inr (inl (record {
@@ -113,7 +113,7 @@ module _ (table : Address) (name : List ℕ) where
                 units = (
                   expr_piece (KeyValLine ws pair tail),
                   tail.comment,
-                  ap (line_units xs) is ∙ ap₂ (λ s k. pair_line (expr_piece (KeyValLine ws pair tail)) (below s k) (length s) pair.value tail.comment) tables key,
+                  ap (line_units xs) is ∙ ap₂ (λ s k. pair_line_units (expr_piece (KeyValLine ws pair tail)) (below s k) (length s) pair.value tail.comment) tables key,
                 );
               }))
 
@@ -150,7 +150,7 @@ module _ (table : Address) (name : List ℕ) where
       × (lines_from (remove_line p) xs n ls ≡ front ++ (left_behind l ++ back))
 
   abbrev Unnamed : List Named → List Line → List Line → Type 0
-  Unnamed ys new old = (v : Value) × IsPut (behind ys new) (pair_at p v) (behind ys old)
+  Unnamed ys new old = (v : Value) × IsPut (behind ys new) (value_block p v) (behind ys old)
 
   -- what holds of lines of which one is the pair's: it does if that line comes first, and if it does of the lines behind one that stays
   abbrev pub Claim : Type 1
@@ -217,7 +217,7 @@ module _ (table : Address) (name : List ℕ) where
           new_ones apart (d.names ys alike))
 
   -- so it is from the root on
-  pub by_document : (C : Claim) → BehindOne C → AtOne C → (lines : List Line) → HasLine lines p → KeepsRules (named lines) → C (root ∷ []) (root ∷ []) 0 lines
+  pub by_document : (C : Claim) → BehindOne C → AtOne C → (lines : List Line) → HasUndottedLine lines p → KeepsRules (named lines) → C (root ∷ []) (root ∷ []) 0 lines
   by_document C stays goes lines there keeps =
       let alone : PairsAre Alone (root ∷ behind (root ∷ []) lines) = subst (PairsAre Alone) (plain_is lines) (pairs_plain lines Alone (λ x y h. h) (pairs_of_all Alone (named lines) (line_values_stand_alone lines keeps))) in
       by_lines C stays goes lines (root ∷ []) (root ∷ []) 0 (alike_self (root ∷ [])) alone.1 there
@@ -232,7 +232,7 @@ module _ (table : Address) (name : List ℕ) where
       let new_ones = named_by ys 0 l.expr in
       let found = both.0 in
       let gone = both.1 in (
-        (found.0, subst (λ r. IsPut (behind ys (r ++ kept)) (pair_at p found.0) (new_ones ++ behind (ys ++ new_ones) ls)) (sym stays.0) (put_behind new_ones (behind (ys ++ new_ones) kept) (pair_at p found.0) (behind (ys ++ new_ones) ls) found.1)),
+        (found.0, subst (λ r. IsPut (behind ys (r ++ kept)) (value_block p found.0) (new_ones ++ behind (ys ++ new_ones) ls)) (sym stays.0) (put_behind new_ones (behind (ys ++ new_ones) kept) (value_block p found.0) (behind (ys ++ new_ones) ls) found.1)),
         (l ∷ gone.0, gone.1, gone.2, ap (λ r. l ∷ r) gone.3, gone.4, ap (λ r. r ++ kept) stays.0 ∙ ap (λ r. l ∷ r) gone.5),
       )
 
@@ -242,12 +242,12 @@ module _ (table : Address) (name : List ℕ) where
       let new_ones = named_by ys 0 l.expr in
       let names = goes.names ys alike in
       let left : behind ys (remove_line p xs l ++ kept) ≡ behind ys ls = ap₂ (λ a b. behind ys (a ++ b)) goes.gone same ∙ left_names ys l ls in
-      let right : new_ones ++ behind (ys ++ new_ones) ls ≡ pair_at p goes.value ++ behind ys ls = ap₂ (λ a b. a ++ b) names (ap (λ b. behind (ys ++ b) ls) names ∙ sym (behind_alike ls ys (ys ++ pair_at p goes.value) (goes.alike ys alike))) in (
-        (goes.value, subst₂ (λ a b. IsPut a (pair_at p goes.value) b) (sym left) (sym right) (put_here (pair_at p goes.value) (behind ys ls))),
+      let right : new_ones ++ behind (ys ++ new_ones) ls ≡ value_block p goes.value ++ behind ys ls = ap₂ (λ a b. a ++ b) names (ap (λ b. behind (ys ++ b) ls) names ∙ sym (behind_alike ls ys (ys ++ value_block p goes.value) (goes.alike ys alike))) in (
+        (goes.value, subst₂ (λ a b. IsPut a (value_block p goes.value) b) (sym left) (sym right) (put_here (value_block p goes.value) (behind ys ls))),
         ([], l, ls, refl, goes.own, ap₂ (λ a b. a ++ b) goes.gone same),
       )
 
-  taken_out : (lines : List Line) → HasLine lines p → KeepsRules (named lines) → Taken (root ∷ []) (root ∷ []) 0 lines
+  taken_out : (lines : List Line) → HasUndottedLine lines p → KeepsRules (named lines) → Taken (root ∷ []) (root ∷ []) 0 lines
   taken_out = by_document Taken behind_one at_one
 
 -- it is that of a name in a table
@@ -281,24 +281,24 @@ lines_member p (l ∷ ls) xs n there = at (is_undotted_pair p (line_stands xs l)
     at false is h more = more h
 
 -- so is that of a line whose key is not dotted
-pub line_parts : (p : Address) (lines : List Line) → HasLine lines p → IsMember p
+pub line_parts : (p : Address) (lines : List Line) → HasUndottedLine lines p → IsMember p
 line_parts p lines there = lines_member p lines (root ∷ []) 0 there
 
-names_removed : (table : Address) (name : List ℕ) (lines : List Line) → HasLine lines (child table name) → KeepsRules (named lines)
-    → (v : Value) × IsPut (named_plain (remove_lines (child table name) lines)) (pair_at (child table name) v) (named_plain lines)
+names_removed : (table : Address) (name : List ℕ) (lines : List Line) → HasUndottedLine lines (child table name) → KeepsRules (named lines)
+    → (v : Value) × IsPut (named_plain (remove_lines (child table name) lines)) (value_block (child table name) v) (named_plain lines)
 names_removed table name lines there keeps =
     let p = child table name in
     let found = (taken_out table name lines there keeps).0 in
-    (found.0, subst₂ (λ s t. IsPut s (pair_at p found.0) t) (sym (plain_is (remove_lines p lines))) (sym (plain_is lines)) (put_behind (root ∷ []) (behind (root ∷ []) (remove_lines p lines)) (pair_at p found.0) (behind (root ∷ []) lines) found.1))
+    (found.0, subst₂ (λ s t. IsPut s (value_block p found.0) t) (sym (plain_is (remove_lines p lines))) (sym (plain_is lines)) (put_behind (root ∷ []) (behind (root ∷ []) (remove_lines p lines)) (value_block p found.0) (behind (root ∷ []) lines) found.1))
 
 pub remove_names : RemoveNames
 remove_names p lines there keeps =
     let (table, name, is) = line_parts p lines there in
-    subst (λ q. (v : Value) × IsPut (named_plain (remove_lines q lines)) (pair_at q v) (named_plain lines)) (sym is)
-    (names_removed table name lines (subst (HasLine lines) is there) keeps)
+    subst (λ q. (v : Value) × IsPut (named_plain (remove_lines q lines)) (value_block q v) (named_plain lines)) (sym is)
+    (names_removed table name lines (subst (HasUndottedLine lines) is there) keeps)
 
 pub remove_keeps_lines : RemoveKeepsLines
 remove_keeps_lines p lines there keeps =
     let (table, name, is) = line_parts p lines there in
     subst (λ q. (front : List Line) × (l : Line) × (back : List Line) × (lines ≡ front ++ l ∷ back) × HasValueAt q (named front) l.expr
-    × (remove_lines q lines ≡ front ++ (left_behind l ++ back))) (sym is) (taken_out table name lines (subst (HasLine lines) is there) keeps).1
+    × (remove_lines q lines ≡ front ++ (left_behind l ++ back))) (sym is) (taken_out table name lines (subst (HasUndottedLine lines) is there) keeps).1

@@ -23,7 +23,7 @@ use Rattle.toml_edits.specs.Edits.{Change, set, insert, rename, remove, new_sect
 use Rattle.toml_edits.specs.Faults.{IsFault}
 use Rattle.toml_edits.specs.declared.fault.EditFault.TheVariants.{RootNamed, NotAName, AlreadyThere, AddressLength}
 use Rattle.toml_edits.proofs.Proved.{one_after}
-use Rattle.toml_working.specs.Inserting.{insert_lines}
+use Rattle.toml_working.specs.Inserting.{insert_in}
 use Rattle.toml_working.specs.Removing.{remove_lines}
 use Rattle.toml_working.specs.Renaming.{rename_lines}
 use Rattle.toml_working.specs.Setting.{set_lines}
@@ -32,6 +32,7 @@ use Rattle.toml_working.specs.Written.{AreEdited, IsWritten}
 use Rattle.toml_editor.proofs.written.Fitting.{all_fit, keeps_value, unnamed, last_step}
 use Rattle.toml_editor.proofs.written.InsertFormed.{insert_forms}
 use Rattle.toml_editor.proofs.written.InsertKept.{insert_rules, insert_short, insert_data}
+use Rattle.toml_editor.proofs.written.Members.{same_member}
 use Rattle.toml_editor.proofs.written.Profiled.{set_of_profile, insert_of_profile, remove_of_profile, rename_of_profile}
 use Rattle.toml_editor.proofs.written.RemoveKept.{remove_forms, remove_good, remove_data}
 use Rattle.toml_editor.proofs.written.RenameFormed.{rename_forms}
@@ -48,7 +49,8 @@ good_texts_are_documents profile text within = (
 
 edited_lines : (profile : Profile) (c : Change) (manner : Manner) (lines : List Line) (old now : Kinds) → IsAfter profile c old now → IsPlain lines c → (new : List Line) × AreEdited profile c manner lines new
 edited_lines profile (set p text) manner lines old now after there = let v = after.1.value.tree in (set_lines p v lines, (v, after.1.value.is_value, there, refl))
-edited_lines profile (insert p text) manner lines old now after (name, at) = let v = after.1.value.tree in (insert_lines name v manner lines, (v, after.1.value.is_value, name, at, refl))
+edited_lines profile (insert p text) manner lines old now after (q, name, at, there) =
+    let v = after.1.value.tree in (insert_in q name v manner lines, (v, after.1.value.is_value, q, name, at, there, refl))
 edited_lines profile (rename p to) manner lines old now after plain = (rename_lines p to lines, refl)
 edited_lines profile (remove p) manner lines old now after there = (remove_lines p lines, (there, refl))
 edited_lines profile (new_section p) manner lines old now after plain = absurd plain
@@ -78,14 +80,14 @@ module _ (profile : Profile) (manner : Manner) (newline : IsNewline manner.newli
         good = (set_rules p v lines apart there good.0 (keeps_value profile text v after.0 value after.1), short);
         after = λ kinds is'. set_data profile p text v lines after.0 old kinds apart there good.0 value after.1 is is';
       })
-  edited (insert p text) now new none after (v, value, name, at, made) =
-      let fit = all_fit profile text v after.0 value after.1 (Name name ∷ []) (λ r some low. none AddressLength (inr (after.0, after.1, r, some, subst (λ x. max_steps < length x + length r) (sym at) low))) in
-      let free : ¬ IsNamed (named lines) (Name name ∷ []) = unnamed lines old (Name name ∷ []) is (λ some. none AlreadyThere ([], name, at, subst (λ x. IsSome (old x)) (sym at) some)) in
+  edited (insert p text) now new none after (v, value, q, name, at, there, made) =
+      let fit = all_fit profile text v after.0 value after.1 (child q name) (λ r some low. none AddressLength (inr (after.0, after.1, r, some, subst (λ x. max_steps < length x + length r) (sym at) low))) in
+      let free : ¬ IsNamed (named lines) (child q name) = unnamed lines old (child q name) is (λ some. none AlreadyThere (q, name, at, subst (λ x. IsSome (old x)) (sym at) some)) in
       subst (AreNew profile (insert p text) old) (sym made) (record {
-        forms = insert_forms name v manner lines forms newline value.0.form value.0.shallow;
-        profiled = insert_of_profile profile name v manner lines profiled value.1;
-        good = (insert_rules name v manner lines free good.0 (keeps_value profile text v after.0 value after.1), insert_short name v manner lines good.1 fit);
-        after = λ kinds is'. subst (λ x. IsAfter profile (insert x text) old kinds) (sym at) (insert_data profile name text v manner lines after.0 old kinds value after.1 is is');
+        forms = insert_forms q name v manner lines there forms newline value.0.form value.0.shallow;
+        profiled = insert_of_profile profile q name v manner lines there profiled value.1;
+        good = (insert_rules q name v manner lines there free good.0 (keeps_value profile text v after.0 value after.1), insert_short q name v manner lines there good.1 fit);
+        after = λ kinds is'. subst (λ x. IsAfter profile (insert x text) old kinds) (sym at) (insert_data profile q name text v manner lines after.0 old kinds there value after.1 is is');
       })
   edited (rename p to) now new none after made = by (last_step p)
     where
@@ -159,12 +161,11 @@ plain_steps profile (c ∷ cs) manner before after old now newline good lead wri
 
 -- ---- one text
 
-first_name : (m n : List ℕ) (p : Address) → p ≡ Name m ∷ [] → p ≡ Name n ∷ [] → m ≡ n
-first_name m n p a b = let e : Name m ∷ [] ≡ Name n ∷ [] = sym a ∙ b in cc
-
 one_edited : (profile : Profile) (c : Change) (manner : Manner) (old one two : List Line) → AreEdited profile c manner old one → AreEdited profile c manner old two → one ≡ two
 one_edited profile (set p text) manner old one two (v, value, there, is) (w, value', there', is') = is ∙ ap (λ x. set_lines p x old) (one_value v w 0 text value.0 value'.0) ∙ sym is'
-one_edited profile (insert p text) manner old one two (v, value, m, at, is) (w, value', n, at', is') = is ∙ ap₂ (λ x k. insert_lines k x manner old) (one_value v w 0 text value.0 value'.0) (first_name m n p at at') ∙ sym is'
+one_edited profile (insert p text) manner old one two (v, value, q, m, at, there, is) (w, value', r, n, at', there', is') =
+    let (tables, names) = same_member q r m n (sym at ∙ at') in
+    is ∙ ap₂ (λ x k. insert_in q k x manner old) (one_value v w 0 text value.0 value'.0) names ∙ ap (λ t. insert_in t n w manner old) tables ∙ sym is'
 one_edited profile (rename p to) manner old one two is is' = is ∙ sym is'
 one_edited profile (remove p) manner old one two (there, is) (there', is') = is ∙ sym is'
 one_edited profile (new_section p) manner old one two is is' = absurd is

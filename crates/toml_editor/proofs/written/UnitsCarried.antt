@@ -1,5 +1,5 @@
 -- What plain edits carry along, from text to text.
-use Rattle.std.proofs.Common.{◌≡◌, ◌⊎◌, inl, inr, ℕ, List, [], ◌∷◌, ◌++◌, length, refl, sym, ap, ◌∙◌, subst, Option, Some, None, IfSome, IsSome, map, ap₂, subst₂, true≢false}
+use Rattle.std.proofs.Common.{◌≡◌, ◌⊎◌, inl, inr, ℕ, List, [], ◌∷◌, ◌++◌, length, refl, sym, ap, ◌∙◌, subst, Option, Some, None, IfSome, IsSome, map, true≢false}
 use Rattle.toml_tree.specs.Bare.{bare_lines}
 use Rattle.toml_tree.specs.Places.{put_doc}
 use Rattle.toml_tree.specs.Spells.{Spells, AreLines, joined, lines_parts, mark_of, EachIs}
@@ -30,7 +30,7 @@ use Rattle.toml_edits.specs.After.{IsAfter}
 use Rattle.toml_edits.specs.Faults.{IsFault}
 use Rattle.toml_text.specs.Forms.{IsNewline}
 use Rattle.toml_editor.specs.CarriedUnits.{PlainIsCarried}
-use Rattle.toml_working.specs.Inserting.{insert_lines}
+use Rattle.toml_working.specs.Inserting.{insert_in}
 use Rattle.toml_working.specs.Renaming.{rename_lines}
 use Rattle.toml_editor.specs.Steps.{IsGoodText}
 use Rattle.toml_editor.proofs.written.Fitting.{unnamed, last_step, all_fit}
@@ -38,7 +38,7 @@ use Rattle.toml_editor.proofs.written.InsertFormed.{insert_forms}
 use Rattle.toml_editor.proofs.written.RenameFormed.{rename_forms}
 use Rattle.toml_editor.proofs.written.WayComments.{comments}
 use Rattle.toml_working.specs.Setting.{set_lines}
-use Rattle.toml_working.specs.Written.{HasLine, HasValue, IsWritten}
+use Rattle.toml_working.specs.Written.{HasUndottedLine, HasSection, HasValue, IsWritten}
 use Rattle.toml_editor.proofs.written.SetKept.{set_short}
 use Rattle.toml_editor.proofs.written.SetFormed.{set_forms}
 use Rattle.toml_editor.proofs.written.WaySet.{set_way}
@@ -103,20 +103,21 @@ rename_goes p to profile manner before after old now newline good none is_after 
         }
 
 insert_goes : (p : Address) (value : List ℕ) → HaveWays (insert p value)
-insert_goes p value profile manner before after old now newline good none is_after (d, spells, edited, (v, is_value, name, at, made), text) =
+insert_goes p value profile manner before after old now newline good none is_after (d, spells, edited, (v, is_value, q, name, at, there, made), text) =
     let same : d ≡ good.tree = one_tree d good.tree before spells.0 good.spelled.0 in
     let lines = good.tree.lines in
-    let lines_are : edited ≡ insert_lines name v manner lines = made ∙ ap (λ (x : Doc). insert_lines name v manner x.lines) same in
-    let text_is : after ≡ good.tree.mark.text ++ joined (lines_parts (insert_lines name v manner lines)) =
+    let there' : HasSection lines q = subst (λ (x : Doc). HasSection x.lines q) same there in
+    let lines_are : edited ≡ insert_in q name v manner lines = made ∙ ap (λ (x : Doc). insert_in q name v manner x.lines) same in
+    let text_is : after ≡ good.tree.mark.text ++ joined (lines_parts (insert_in q name v manner lines)) =
     text ∙ ap (λ (x : Doc). x.mark.text ++ joined (lines_parts edited)) same ∙ ap (λ ls. good.tree.mark.text ++ joined (lines_parts ls)) lines_are in
     record {
       comments_in = texts (comments (inside [] v));
       comments_are = (v, is_value.0, refl);
-      edited = insert_lines name v manner lines;
-      forms = insert_forms name v manner lines good.spelled.0.lines.forms newline is_value.0.form is_value.0.shallow;
+      edited = insert_in q name v manner lines;
+      forms = insert_forms q name v manner lines there' good.spelled.0.lines.forms newline is_value.0.form is_value.0.shallow;
       text = text_is;
-      way = subst (λ x. HasWay (insert x value ∷ []) (texts (comments (inside [] v)) ∷ []) lines (insert_lines name v manner lines)) (sym at)
-          (insert_way name value v manner lines good.spelled.0.lines.forms);
+      way = subst (λ x. HasWay (insert x value ∷ []) (texts (comments (inside [] v)) ∷ []) lines (insert_in q name v manner lines)) (sym at)
+          (insert_way q name value v manner lines there' good.spelled.0.lines.forms);
     }
 
 set_goes : (p : Address) (value : List ℕ) → HaveWays (set p value)
@@ -171,7 +172,7 @@ remove_goes : (p : Address) → HaveWays (remove p)
 remove_goes p profile manner before after old now newline good none is_after (d, spells, edited, (there, made), text) =
     let same : d ≡ good.tree = one_tree d good.tree before spells.0 good.spelled.0 in
     let lines = good.tree.lines in
-    let has_line : HasLine lines p = subst (λ (x : Doc). HasLine x.lines p) same there in
+    let has_line : HasUndottedLine lines p = subst (λ (x : Doc). HasUndottedLine x.lines p) same there in
     let (table, name, at) = line_parts p lines has_line in
     let lines_are : edited ≡ remove_lines p lines = made ∙ ap (λ (x : Doc). remove_lines p x.lines) same in
     let forms = remove_forms p lines good.spelled.0.lines.forms in
@@ -184,7 +185,7 @@ remove_goes p profile manner before after old now newline good none is_after (d,
       text =
           text ∙ ap (λ (x : Doc). x.mark.text ++ joined (lines_parts edited)) same
           ∙ ap (λ ls. good.tree.mark.text ++ joined (lines_parts ls)) lines_are;
-      way = subst (λ q. HasLine lines q → EachIs (λ (u : TextUnit). (a : Address) → u.address ≡ Some a → IsClear q a) (units (remove_lines q lines))
+      way = subst (λ q. HasUndottedLine lines q → EachIs (λ (u : TextUnit). (a : Address) → u.address ≡ Some a → IsClear q a) (units (remove_lines q lines))
           → HasWay (remove q ∷ []) ([] ∷ []) lines (remove_lines q lines)) (sym at)
           (λ here clear. remove_way table name lines good.spelled.0.lines.forms here good.good.0 clear) has_line far;
     }

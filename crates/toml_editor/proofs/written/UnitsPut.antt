@@ -1,27 +1,29 @@
--- The units after an `insert` at the root.
+-- The units after an `insert`.
 use Rattle.std.proofs.Common.{◌≡◌, ℕ, ◌+◌, Some, None, List, [], ◌∷◌, ◌++◌, length, refl, sym, ap, ap₂, ◌∙◌, subst, subst₂, append_assoc, append-nil, ◌⊎◌, inl, inr, ◌<◌, zero, suc, arith, Option}
 use Rattle.std.specs.Prelude.{slice_get}
 use Rattle.toml_scalar.specs.Spelling.{spelled}
 use Rattle.toml_tree.specs.Bare.{fresh}
-use Rattle.toml_tree.specs.Spells.{AreLines, EachIs, IsExpr, joined, value_parts, piece}
+use Rattle.toml_tree.specs.Spells.{AreLines, IsExpr, joined, value_parts, piece}
 use Rattle.toml_tree.specs.Tree.{Piece, Value, Expr, BlankLine, KeyValLine, TableLine, ArrayTableLine, Line}
 use Rattle.toml_tree.proofs.Proved.{parts_join}
 use Rattle.toml_names.specs.declared.model.address.Step.TheVariants.{Name}
-use Rattle.toml_names.specs.model.Addresses.{Address, below}
+use Rattle.toml_names.specs.model.Addresses.{Address, below, child}
 use Rattle.toml_names.specs.reader.Names.{own_address}
 use Rattle.toml_names.specs.mentions.Keys.{spelled_name, key_names}
-use Rattle.toml_names.specs.mentions.Mentions.{Named, named_by, root, section}
+use Rattle.toml_names.specs.mentions.Mentions.{Named, named_by, named_from, root, section}
 use Rattle.toml_units.specs.Units.{TextUnit, line_units, inside, comment_units, units_from, units}
 use Rattle.toml_units.specs.declared.unit.UnitKind.TheVariants as kinds
-use Rattle.toml_working.specs.Inserting.{new_assign, new_expr, line_behind, insert_lines, spacing_behind, spacing_of}
+use Rattle.toml_working.specs.Inserting.{new_assign, new_expr, line_put, insert_in}
 use Rattle.toml_layout.specs.declared.layout.Layout.TheVariants as layouts
 use Rattle.toml_working.specs.Manners.{Manner}
-use Rattle.toml_layout.specs.Spacings.{Spacing, laid_out, plain_spacing}
-use Rattle.toml_editor.specs.UnitBlocks.{BeginWithLine, IsBlockPut, pair_line, pair_text, InsertUnits}
+use Rattle.toml_layout.specs.Spacings.{Spacing, plain_spacing}
+use Rattle.toml_working.specs.Written.{HasSection}
+use Rattle.toml_editor.specs.UnitBlocks.{BeginWithLine, IsBlockPut, pair_line_units, pair_text, InsertUnits}
 use Rattle.toml_editor.proofs.written.Alike.{alike_self, alike_pair}
-use Rattle.toml_editor.proofs.written.InsertFormed.{line_formed}
-use Rattle.toml_editor.proofs.written.InsertPlace.{IsFull, IsNoHeader, insert_place}
-use Rattle.toml_editor.proofs.written.InsertNamed.{spelled_again, stays}
+use Rattle.toml_editor.proofs.written.InsertSpaced.{line_formed}
+use Rattle.toml_editor.proofs.written.InsertPlace.{IsFull}
+use Rattle.toml_editor.proofs.written.InsertPlaces.{IsPlace, insert_in_place}
+use Rattle.toml_editor.proofs.written.InsertNamed.{spelled_again}
 use Rattle.toml_editor.proofs.written.LastLines.{LastIsFull, full_behind, full_line}
 use Rattle.toml_editor.proofs.written.WayBlock.{inside_lines, lines_append}
 use Rattle.toml_editor.proofs.written.WayFits.{newlines}
@@ -87,9 +89,9 @@ put_behind Formed us old block new before after newline one some h =
     ends zero low = inl refl
     ends (suc a) low = elim (h.front_ends a (omega (arith, low))) [ inl is ↦ inl is | inr last ↦ inr (omega (arith, last)) ]
 
-module _ (name : List ℕ) (v : Value) where
+module _ (q : Address) (name : List ℕ) (v : Value) where
   abbrev pub block : Spacing → List TextUnit
-  block s = pair_line (fresh (pair_text s name v)) (Name name ∷ []) 0 v None
+  block s = pair_line_units (fresh (pair_text s name v)) (child q name) (length q) v None
 
   new_text : joined (value_parts v ++ piece (fresh []) ∷ []) ≡ joined (value_parts v)
   new_text = parts_join (value_parts v) (piece (fresh []) ∷ []) ∙ append-nil (joined (value_parts v))
@@ -97,19 +99,19 @@ module _ (name : List ℕ) (v : Value) where
   abbrev line_of : Piece → Address → ℕ → List TextUnit
   line_of p at base = record { kind = kinds.Line; piece = p; address = Some at; base = Some base } ∷ (inside at v ++ [])
 
-  new_units : (s : Spacing) (xs : List Named) → section xs ≡ [] → line_units xs (new_expr s name v) ≡ block s
-  new_units s xs at_root =
-      ap (λ at. line_of (record { start = 0; text = s.ws ++ (spelled name ++ (s.before_equals ++ 0x3D ∷ (s.after_equals ++ joined (value_parts v ++ piece (fresh []) ∷ [])))) }) (at ++ Name (spelled_name (spelled name)) ∷ []) (length at)) at_root
-      ∙ ap₂ (λ t m. line_of (fresh (s.ws ++ (spelled name ++ (s.before_equals ++ 0x3D ∷ (s.after_equals ++ t))))) (Name m ∷ []) 0) new_text (spelled_again name)
+  new_units : (s : Spacing) (xs : List Named) → section xs ≡ q → line_units xs (new_expr s name v) ≡ block s
+  new_units s xs there =
+      ap (λ at. line_of (record { start = 0; text = s.ws ++ (spelled name ++ (s.before_equals ++ 0x3D ∷ (s.after_equals ++ joined (value_parts v ++ piece (fresh []) ∷ [])))) }) (at ++ Name (spelled_name (spelled name)) ∷ []) (length at)) there
+      ∙ ap₂ (λ t m. line_of (fresh (s.ws ++ (spelled name ++ (s.before_equals ++ 0x3D ∷ (s.after_equals ++ t))))) (child q m) (length q)) new_text (spelled_again name)
 
-  put_first : (Formed : Type 0) (s : Spacing) (xs : List Named) (n m : ℕ) (ls : List Line) (ending : List ℕ) → section xs ≡ []
+  put_first : (Formed : Type 0) (s : Spacing) (xs : List Named) (n m : ℕ) (ls : List Line) (ending : List ℕ) → section xs ≡ q
       → IsPutWell Formed (units_from xs n ls) (block s) (line_units xs (new_expr s name v) ++ units_from (xs ++ named_by xs m (new_expr s name v)) (m + 1) ls) (newlines ls) (ending ∷ newlines ls)
-  put_first Formed s xs n m ls ending at_root = record {
+  put_first Formed s xs n m ls ending there = record {
     put = record {
       front = [];
       back = units_from xs n ls;
       before = refl;
-      after = ap₂ (λ t u. t ++ u) (new_units s xs at_root) (sym (units_alike ls xs (xs ++ named_by xs m (new_expr s name v)) n (m + 1) (alike_pair xs xs (alike_self xs) m (section xs) (new_assign s name) v)));
+      after = ap₂ (λ t u. t ++ u) (new_units s xs there) (sym (units_alike ls xs (xs ++ named_by xs m (new_expr s name v)) n (m + 1) (alike_pair xs xs (alike_self xs) m (section xs) (new_assign s name) v)));
       next = lines_first ls xs n;
     };
     front_ends = λ a low. let e : ⊥ = omega (arith, low) in absurd e;
@@ -117,22 +119,19 @@ module _ (name : List ℕ) (v : Value) where
     full = λ formed none. tt;
   }
 
-  module _ (manner : Manner) (l : Line) (head : IsNoHeader l.expr) (keyed : IsFull l.expr) where
-    abbrev s : Spacing
-    s = spacing_behind manner l
-
+  module _ (manner : Manner) (s : Spacing) (l : Line) (keyed : IsFull l.expr) where
     abbrev Well : List TextUnit → List TextUnit → List (List ℕ) → List (List ℕ) → Type 0
     Well old new = IsPutWell (IsExpr l.expr) old (block s) new
 
     -- the last line gets a newline
-    put_end : (xs : List Named) (n : ℕ) → section (xs ++ named_by xs n l.expr) ≡ []
+    put_end : (xs : List Named) (n : ℕ) → section (xs ++ named_by xs n l.expr) ≡ q
         → Well (line_units xs l.expr ++ []) (line_units xs l.expr ++ (line_units (xs ++ named_by xs n l.expr) (new_expr s name v) ++ [])) (l.newline.text ∷ []) (manner.newline ∷ [] ∷ [])
-    put_end xs n at_root = record {
+    put_end xs n there = record {
       put = record {
         front = line_units xs l.expr;
         back = [];
         before = refl;
-        after = ap (λ b. line_units xs l.expr ++ (b ++ [])) (new_units s (xs ++ named_by xs n l.expr) at_root);
+        after = ap (λ b. line_units xs l.expr ++ (b ++ [])) (new_units s (xs ++ named_by xs n l.expr) there);
         next = tt;
       };
       front_ends = λ a low. let one = line_lines xs l.expr in inr (omega (arith, low, one));
@@ -143,26 +142,26 @@ module _ (name : List ℕ) (v : Value) where
         count : (a : ℕ) → lines_in (line_units xs l.expr) + a ≡ suc a
         count a = let one = line_lines xs l.expr in omega (arith, one)
 
-    put_line : (xs : List Named) (n : ℕ) (ls : List Line) → section (xs ++ named_by xs n l.expr) ≡ []
-        → Well (units_from xs n (l ∷ ls)) (units_from xs n (line_behind name v manner l ls)) (newlines (l ∷ ls)) (newlines (line_behind name v manner l ls))
-    put_line xs n [] at_root = put_end xs n at_root
-    put_line xs n (m ∷ ms) at_root =
+    put_line : (xs : List Named) (n : ℕ) (ls : List Line) → section (xs ++ named_by xs n l.expr) ≡ q
+        → Well (units_from xs n (l ∷ ls)) (units_from xs n (line_put s name v manner l ls)) (newlines (l ∷ ls)) (newlines (line_put s name v manner l ls))
+    put_line xs n [] there = put_end xs n there
+    put_line xs n (m ∷ ms) there =
         put_behind (IsExpr l.expr) (line_units xs l.expr) (units_from (xs ++ named_by xs n l.expr) (n + 1) (m ∷ ms)) (block s) _ (newlines (m ∷ ms))
         (manner.newline ∷ newlines (m ∷ ms)) l.newline.text (line_lines xs l.expr) (some_lines (xs ++ named_by xs n l.expr) (n + 1) m ms)
-        (put_first (IsExpr l.expr) s (xs ++ named_by xs n l.expr) (n + 1) (n + 1) (m ∷ ms) manner.newline at_root)
+        (put_first (IsExpr l.expr) s (xs ++ named_by xs n l.expr) (n + 1) (n + 1) (m ∷ ms) manner.newline there)
 
     some_units : (front back : List Line) (xs : List Named) (n : ℕ) → 0 < lines_in (units_from xs n (front ++ l ∷ back))
     some_units [] back xs n = some_lines xs n l back
     some_units (m ∷ front) back xs n = some_lines xs n m (front ++ l ∷ back)
 
-    put_at : (front back : List Line) (xs : List Named) (n : ℕ) → section xs ≡ [] → EachIs (λ (m : Line). IsNoHeader m.expr) front
-        → Well (units_from xs n (front ++ l ∷ back)) (units_from xs n (front ++ line_behind name v manner l back)) (newlines (front ++ l ∷ back))
-        (newlines (front ++ line_behind name v manner l back))
-    put_at [] back xs n at_root heads = put_line xs n back (stays xs n l.expr at_root head)
-    put_at (m ∷ front) back xs n at_root heads =
-        put_behind (IsExpr l.expr) (line_units xs m.expr) _ (block s) _ (newlines (front ++ l ∷ back)) (newlines (front ++ line_behind name v manner l back)) m.newline.text
+    put_at : (front back : List Line) (xs : List Named) (n : ℕ) → section (named_from xs n (front ++ l ∷ [])) ≡ q
+        → Well (units_from xs n (front ++ l ∷ back)) (units_from xs n (front ++ line_put s name v manner l back)) (newlines (front ++ l ∷ back))
+        (newlines (front ++ line_put s name v manner l back))
+    put_at [] back xs n there = put_line xs n back there
+    put_at (m ∷ front) back xs n there =
+        put_behind (IsExpr l.expr) (line_units xs m.expr) _ (block s) _ (newlines (front ++ l ∷ back)) (newlines (front ++ line_put s name v manner l back)) m.newline.text
         (line_lines xs m.expr) (some_units front back (xs ++ named_by xs n m.expr) (n + 1))
-        (put_at front back (xs ++ named_by xs n m.expr) (n + 1) (stays xs n m.expr at_root heads.0) heads.1)
+        (put_at front back (xs ++ named_by xs n m.expr) (n + 1) there)
 
   -- the lines in the forms are formed
   formed_well : (Formed Other : Type 0) (old new block : List TextUnit) (before after : List (List ℕ)) → (Other → Formed) → IsPutWell Formed old block new before after
@@ -170,28 +169,31 @@ module _ (name : List ℕ) (v : Value) where
   formed_well Formed Other old new block before after from well =
       record { put = well.put; front_ends = well.front_ends; back_ends = well.back_ends; full = λ formed none. well.full (from formed) none }
 
-  pub put_lines : (manner : Manner) (lines : List Line)
-      → (s : Spacing) × (manner.layout ≡ layouts.Plain → s ≡ plain_spacing)
-      × IsPutWell (AreLines lines) (units lines) (block s) (units (insert_lines name v manner lines)) (newlines lines) (newlines (insert_lines name v manner lines))
-  put_lines manner lines = elim (insert_place name v manner lines) [
-    | inl first ↦ (
-      plain_spacing,
-      (λ is. refl),
-      subst (λ ls. IsPutWell (AreLines lines) (units lines) (block plain_spacing) (units ls) (newlines lines) (newlines ls)) (sym first)
-          (put_first (AreLines lines) plain_spacing (root ∷ []) 0 0 lines manner.newline refl),
-    )
-    | inr found ↦
-        let l = found.line in
-        let s = spacing_behind manner l in
-        let old = found.front ++ l ∷ found.back in
-        let new = found.front ++ line_behind name v manner l found.back in (
-          s,
-          (λ is. ap (λ x. laid_out x (spacing_of l.expr)) is),
-          subst₂ (λ ls ms. IsPutWell (AreLines ls) (units ls) (block s) (units ms) (newlines ls) (newlines ms)) (sym found.before) (sym found.after)
-              (formed_well (IsExpr l.expr) (AreLines old) (units old) (units new) (block s) (newlines old) (newlines new) (line_formed found.front found.back l)
-              (put_at manner l found.head found.full found.front found.back (root ∷ []) 0 refl found.heads)),
-        )
-  ]
+  abbrev pub IsPutIn : Manner → List Line → List Line → Type 0
+  IsPutIn manner lines new = (s : Spacing) × (manner.layout ≡ layouts.Plain → s ≡ plain_spacing)
+      × IsPutWell (AreLines lines) (units lines) (block s) (units new) (newlines lines) (newlines new)
+
+  put_lines : (manner : Manner) (lines new : List Line) → IsPlace q name v manner lines new → IsPutIn manner lines new
+  put_lines manner lines new (inl (at_root, first)) = (
+    plain_spacing,
+    (λ is. refl),
+    subst (λ ls. IsPutWell (AreLines lines) (units lines) (block plain_spacing) (units ls) (newlines lines) (newlines ls)) (sym first)
+        (put_first (AreLines lines) plain_spacing (root ∷ []) 0 0 lines manner.newline (sym at_root)),
+  )
+  put_lines manner lines new (inr found) =
+      let l = found.line in
+      let s = found.spacing in
+      let was = found.front ++ l ∷ found.back in
+      let made = found.front ++ line_put s name v manner l found.back in (
+        s,
+        found.plain,
+        subst₂ (λ ls ms. IsPutWell (AreLines ls) (units ls) (block s) (units ms) (newlines ls) (newlines ms)) (sym found.was) (sym found.is)
+            (formed_well (IsExpr l.expr) (AreLines was) (units was) (units made) (block s) (newlines was) (newlines made) (line_formed found.front found.back l)
+            (put_at manner s l found.full found.front found.back (root ∷ []) 0 found.section_is)),
+      )
+
+  pub puts_lines : (manner : Manner) (lines : List Line) → HasSection lines q → IsPutIn manner lines (insert_in q name v manner lines)
+  puts_lines manner lines there = put_lines manner lines _ (insert_in_place q name v manner lines there)
 
 pub insert_units : InsertUnits
-insert_units name v manner lines = let (s, plain, well) = put_lines name v manner lines in (s, plain, well.put)
+insert_units q name v manner lines there = let (s, plain, well) = puts_lines q name v manner lines there in (s, plain, well.put)

@@ -7,13 +7,13 @@ use Rattle.toml_names.specs.model.Addresses.{Address, child}
 use Rattle.toml_names.specs.mentions.Alike.{AreAlike}
 use Rattle.toml_names.specs.mentions.Mentions.{Named, named, named_by}
 use Rattle.toml_units.specs.Units.{TextUnit, line_units, units_from, units}
-use Rattle.toml_editor.specs.Blocks.{pair_at}
+use Rattle.toml_editor.specs.Blocks.{value_block}
 use Rattle.toml_working.specs.Lines.{lines_from}
 use Rattle.toml_working.specs.Removing.{remove_line, left_behind, empty_line, remove_lines}
-use Rattle.toml_editor.specs.UnitBlocks.{IsBlockTaken, pair_line, left_of, RemoveUnits}
+use Rattle.toml_editor.specs.UnitBlocks.{IsBlockTaken, pair_line_units, left_of, RemoveUnits}
 use Rattle.std.specs.Prelude.{slice_get}
 use Rattle.toml_names.specs.mentions.Rules.{KeepsRules}
-use Rattle.toml_working.specs.Written.{HasLine}
+use Rattle.toml_working.specs.Written.{HasUndottedLine}
 use Rattle.toml_editor.proofs.written.WayZip.{lines_in}
 use Rattle.toml_editor.proofs.written.WayFits.{newlines}
 use Rattle.toml_editor.proofs.written.WayBlock.{lines_append}
@@ -51,7 +51,7 @@ module _ (table : Address) (name : List ℕ) where
     pub piece : Piece
     pub value : Value
     pub comment : Option Piece
-    pub taken : IsBlockTaken old (pair_line piece p (length table) value comment) new
+    pub taken : IsBlockTaken old (pair_line_units piece p (length table) value comment) new
     pub front_ends : (a : ℕ) → a < lines_in taken.front → slice_get before a ≡ slice_get after a
     pub back_ends : (a : ℕ) → a < lines_in taken.back → slice_get before (lines_in taken.front + suc a) ≡ slice_get after (lines_in taken.front + a)
 
@@ -66,7 +66,7 @@ module _ (table : Address) (name : List ℕ) where
         taken = record {
           front = us ++ taken.front;
           back = taken.back;
-          before = ap (λ l. us ++ l) taken.before ∙ sym (append_assoc us taken.front (pair_line h.piece p (length table) h.value h.comment ++ taken.back));
+          before = ap (λ l. us ++ l) taken.before ∙ sym (append_assoc us taken.front (pair_line_units h.piece p (length table) h.value h.comment ++ taken.back));
           after = ap (λ l. us ++ l) taken.after ∙ sym (append_assoc us taken.front (left_of taken.back ++ taken.back));
           next = taken.next;
         };
@@ -103,8 +103,8 @@ module _ (table : Address) (name : List ℕ) where
   at_one : AtOne table name Taken
   at_one xs ys n l ls alike goes same is =
       let behind_it : AreAlike xs (xs ++ named_by xs n l.expr) =
-      alike_trans xs (ys ++ pair_at p goes.value) (xs ++ named_by xs n l.expr)
-      (alike_trans xs ys (ys ++ pair_at p goes.value) alike (goes.alike ys alike))
+      alike_trans xs (ys ++ value_block p goes.value) (xs ++ named_by xs n l.expr)
+      (alike_trans xs ys (ys ++ value_block p goes.value) alike (goes.alike ys alike))
       (subst (λ b. AreAlike (ys ++ b) (xs ++ named_by xs n l.expr)) (goes.names ys alike) (alike_sym (xs ++ named_by xs n l.expr) (ys ++ named_by ys 0 l.expr) (next_alike xs ys n l.expr alike))) in
       let us = units_from (xs ++ named_by xs n l.expr) (n + 1) ls in
       let again : units_from xs n ls ≡ us = units_alike ls xs (xs ++ named_by xs n l.expr) n (n + 1) behind_it in
@@ -126,18 +126,18 @@ module _ (table : Address) (name : List ℕ) where
             ∙ ap₂ (λ r k. slice_get (newlines r) k) (sym (ap₂ (λ x y. x ++ y) goes.gone same)) (let e : a ≡ 0 + a = omega arith in e);
       }
 
-  pub lines_taken : (lines : List Line) → AreLines lines → HasLine lines p → KeepsRules (named lines)
+  pub lines_taken : (lines : List Line) → AreLines lines → HasUndottedLine lines p → KeepsRules (named lines)
       → AreTaken (units lines) (units (remove_lines p lines)) (newlines lines) (newlines (remove_lines p lines))
   lines_taken lines is there keeps = by_document table name Taken behind_one at_one lines there keeps (ended lines is)
 
 pub remove_units : RemoveUnits
 remove_units p lines is there keeps =
     let (table, name, at) = line_parts p lines there in
-    let h = lines_taken table name lines is (subst (HasLine lines) at there) keeps in (
+    let h = lines_taken table name lines is (subst (HasUndottedLine lines) at there) keeps in (
       h.piece,
       length table,
       h.value,
       h.comment,
       ap length at ∙ length-append table (Name name ∷ []),
-      subst (λ q. IsBlockTaken (units lines) (pair_line h.piece q (length table) h.value h.comment) (units (remove_lines q lines))) (sym at) h.taken,
+      subst (λ q. IsBlockTaken (units lines) (pair_line_units h.piece q (length table) h.value h.comment) (units (remove_lines q lines))) (sym at) h.taken,
     )

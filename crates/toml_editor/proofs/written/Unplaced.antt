@@ -46,10 +46,10 @@ module _ (p : Address) (new : Value) where
       by false = is
 
   -- in a pair, whose key is the same without places
-  pair_at : (at : Address) (a : Assign) (v : Value) → ((to : Address) → bare_value (set_within p new to v) ≡ set_within p (bare_value new) to (bare_value v))
+  value_block : (at : Address) (a : Assign) (v : Value) → ((to : Address) → bare_value (set_within p new to v) ≡ set_within p (bare_value new) to (bare_value v))
       → bare_value (set_at p new (below at (key_names a.key)) (set_within p new (below at (key_names a.key)) v))
       ≡ set_at p (bare_value new) (below at (key_names (bare_key a.key))) (set_within p (bare_value new) (below at (key_names (bare_key a.key))) (bare_value v))
-  pair_at at a v within =
+  value_block at a v within =
       let to = below at (key_names a.key) in
       at_bared to (set_within p new to v) (set_within p (bare_value new) to (bare_value v)) (within to)
       ∙ ap (λ k. set_at p (bare_value new) (below at k) (set_within p (bare_value new) (below at k) (bare_value v))) (sym (key_places_are_not_named a.key))
@@ -68,12 +68,12 @@ module _ (p : Address) (new : Value) where
 
     pairs_set : (pairs : Pairs) (at : Address) → bare_pairs (set_pairs p new at pairs) ≡ set_pairs p (bare_value new) at (bare_pairs pairs)
     pairs_set (ClosePairs g) at = refl
-    pairs_set (LastPair g a v h) at = ap (λ x. LastPair (bare_gap g) (bare_assign a) x (bare_gap h)) (pair_at at a v (λ to. set_bared v to))
-    pairs_set (MorePairs g a v h ps) at = ap₂ (λ x y. MorePairs (bare_gap g) (bare_assign a) x (bare_gap h) y) (pair_at at a v (λ to. set_bared v to)) (pairs_set ps at)
+    pairs_set (LastPair g a v h) at = ap (λ x. LastPair (bare_gap g) (bare_assign a) x (bare_gap h)) (value_block at a v (λ to. set_bared v to))
+    pairs_set (MorePairs g a v h ps) at = ap₂ (λ x y. MorePairs (bare_gap g) (bare_assign a) x (bare_gap h) y) (value_block at a v (λ to. set_bared v to)) (pairs_set ps at)
 
   expr_set : (at : Address) (e : Expr) → bare_expr (set_expr p new at e) ≡ set_expr p (bare_value new) at (bare_expr e)
   expr_set at (BlankLine b) = refl
-  expr_set at (KeyValLine ws k b) = ap (λ (x : Value). KeyValLine (bare ws) (record { assign = bare_assign k.assign; value = x }) (bare_blank b)) (pair_at at k.assign k.value (λ to. set_bared k.value to))
+  expr_set at (KeyValLine ws k b) = ap (λ (x : Value). KeyValLine (bare ws) (record { assign = bare_assign k.assign; value = x }) (bare_blank b)) (value_block at k.assign k.value (λ to. set_bared k.value to))
   expr_set at (TableLine ws h b) = refl
   expr_set at (ArrayTableLine ws h b) = refl
 

@@ -18,7 +18,7 @@ use Rattle.toml_working.specs.Renaming.{rename_part, rename_rest, rename_key, re
 use Rattle.toml_editor.specs.SetLaws.{IsBesideValue, SetKeepsLine}
 use Rattle.toml_working.specs.Setting.{set_value, set_expr}
 use Rattle.toml_editor.proofs.written.Clear.{differ}
-use Rattle.toml_editor.proofs.written.InsertPlace.{insert_place}
+use Rattle.toml_editor.proofs.written.InsertPlaces.{insert_in_place}
 use Rattle.toml_editor.proofs.written.Elsewhere.{beyond, set_within_kept}
 use Rattle.toml_editor.proofs.written.Unplaced.{array_bared, inline_bared, set_bared}
 
@@ -128,7 +128,7 @@ rename_keeps_line p to front back l is beside =
 -- ---- insert
 
 pub insert_keeps_lines : InsertKeepsLines
-insert_keeps_lines name v manner lines = elim (insert_place name v manner lines) [
-  | inl first ↦ inl first
-  | inr found ↦ inr (found.front, found.line, found.back, found.before, found.after)
+insert_keeps_lines q name v manner lines there = elim (insert_in_place q name v manner lines there) [
+  | inl (at_root, first) ↦ inl (at_root, first)
+  | inr found ↦ inr (found.front, found.line, found.back, found.spacing, found.plain, found.was, found.is)
 ]

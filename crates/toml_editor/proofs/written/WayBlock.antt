@@ -88,6 +88,19 @@ pub new_adds : (ws : List TextUnit) → added (map new ws) ≡ ws
 new_adds [] = refl
 new_adds (w ∷ ws) = ap (λ l. w ∷ l) (new_adds ws)
 
+-- units that go
+pub old_olds : (us : List TextUnit) → olds (map old us) ≡ us
+old_olds [] = refl
+old_olds (u ∷ us) = ap (λ l. u ∷ l) (old_olds us)
+
+pub old_news : (us : List TextUnit) → news (map old us) ≡ []
+old_news [] = refl
+old_news (u ∷ us) = old_news us
+
+pub old_adds : (us : List TextUnit) → added (map old us) ≡ []
+old_adds [] = refl
+old_adds (u ∷ us) = old_adds us
+
 pub lines_append : (us vs : List TextUnit) → lines_in (us ++ vs) ≡ lines_in us + lines_in vs
 lines_append [] vs = omega arith
 lines_append (u ∷ us) vs = let more = lines_append us vs in omega (arith, more)

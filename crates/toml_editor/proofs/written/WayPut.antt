@@ -1,11 +1,10 @@
--- The way of an `insert` at the root.
+-- The way of an `insert`.
 use Rattle.std.proofs.Common.{◌≡◌, ◌⊎◌, inl, inr, ◌<◌, ◌+◌, ℕ, suc, Option, Some, None, List, [], ◌∷◌, ◌++◌, map, length, refl, sym, ap, ap₂, ◌∙◌, subst, subst₂, true≢false, arith, append-nil}
 use Rattle.std.specs.Prelude.{slice_get, option_and_then}
 use Rattle.toml_tree.specs.Bare.{fresh}
 use Rattle.toml_tree.specs.Spells.{AreLines, EachIs}
 use Rattle.toml_tree.specs.Tree.{Value, Line}
-use Rattle.toml_names.specs.declared.model.address.Step.TheVariants.{Name}
-use Rattle.toml_names.specs.model.Addresses.{Address}
+use Rattle.toml_names.specs.model.Addresses.{Address, child}
 use Rattle.toml_edits.specs.Carry.{carry}
 use Rattle.toml_edits.specs.Edits.{Change, insert}
 use Rattle.toml_units.specs.declared.unit.UnitKind.TheVariants as kinds
@@ -14,12 +13,14 @@ use Rattle.toml_checker.specs.CarriedTo.{At}
 use Rattle.toml_checker.specs.Comments.{texts}
 use Rattle.toml_checker.specs.Owed.{IsOwed}
 use Rattle.toml_checker.specs.Plain.{Site}
-use Rattle.toml_working.specs.Inserting.{insert_lines}
+use Rattle.toml_working.specs.Inserting.{insert_in}
 use Rattle.toml_working.specs.Manners.{Manner}
 use Rattle.toml_layout.specs.Spacings.{Spacing}
+use Rattle.toml_working.specs.Written.{HasSection}
 use Rattle.toml_working.specs.Together.{GoTogether}
-use Rattle.toml_editor.specs.UnitBlocks.{BeginWithLine, pair_line, pair_text}
+use Rattle.toml_editor.specs.UnitBlocks.{BeginWithLine, pair_line_units, pair_text}
 use Rattle.toml_editor.proofs.Each.{each_append}
+use Rattle.toml_editor.proofs.written.InsertKept.{inserted_on}
 use Rattle.toml_editor.proofs.written.Way.{both, new, olds, news, one_line}
 use Rattle.toml_editor.proofs.written.WayBlock.{line_after, olds_append, news_append, added_append, fits_append, new_fits, new_olds, new_news, new_adds, lines_append, inside_lines, same_comments, inside_asked}
 use Rattle.toml_editor.proofs.written.WayComments.{added, comments}
@@ -31,15 +32,15 @@ use Rattle.toml_editor.proofs.written.UnitsGone.{value_in}
 use Rattle.toml_names.specs.mentions.Mentions.{root}
 use Rattle.toml_editor.proofs.written.WayWhole.{HasWay, as_many}
 use Rattle.toml_editor.proofs.written.WayZip.{IsNear, lost_line, no_comment_lost, carried_to, zip, lines_in, zip_olds, zip_news, zip_fits}
-use Rattle.toml_editor.proofs.written.UnitsPut.{IsPutWell, put_lines}
+use Rattle.toml_editor.proofs.written.UnitsPut.{IsPutWell, puts_lines}
 
 pub all_same : (us : List TextUnit) → GoTogether (λ u w. u ≡ w) us us
 all_same [] = tt
 all_same (u ∷ us) = (refl, all_same us)
 
-module _ (name text : List ℕ) (v : Value) (s : Spacing) where
+module _ (q : Address) (name text : List ℕ) (v : Value) (s : Spacing) where
   abbrev p : Address
-  p = Name name ∷ []
+  p = child q name
 
   abbrev c : Change
   c = insert p text
@@ -57,7 +58,7 @@ module _ (name text : List ℕ) (v : Value) (s : Spacing) where
     kind = refl;
     kept = λ here. record {
       text = refl;
-      address = carried_to c u.address u.address (stays u.address) (λ x at. (x, refl));
+      address = carried_to c u.address u.address (stays u.address) (λ x at. (x, inserted_on q name text x));
       newline = same;
     };
     lost = λ gone. (
@@ -68,10 +69,10 @@ module _ (name text : List ℕ) (v : Value) (s : Spacing) where
     where
       stays : (o : Option Address) → o ≡ option_and_then (carry c) o
       stays None = refl
-      stays (Some x) = refl
+      stays (Some x) = sym (inserted_on q name text x)
 
   abbrev block : List TextUnit
-  block = pair_line (fresh (pair_text s name v)) (Name name ∷ []) 0 v None
+  block = pair_line_units (fresh (pair_text s name v)) p (length q) v None
 
   block_asked : (before after : List (List ℕ)) → EachIs (λ w. (k : ℕ) → IsAsked (c ∷ []) (ts ∷ []) before after k w) block
   block_asked before after = (
@@ -85,7 +86,7 @@ module _ (name text : List ℕ) (v : Value) (s : Spacing) where
     where
       stays : (o : Option Address) → o ≡ option_and_then (carry c) o
       stays None = refl
-      stays (Some x) = refl
+      stays (Some x) = sym (inserted_on q name text x)
 
   block_lines : lines_in block ≡ 1
   block_lines = let none = lines_append (inside p v) [] in let zero = inside_lines p v in omega (arith, none, zero)
@@ -188,7 +189,7 @@ module _ (name text : List ℕ) (v : Value) (s : Spacing) where
           let e : x ≡ 0 + x = omega arith in
           subst (λ n. SameNewline (c ∷ []) (ts ∷ []) before after n n) e (elim (well.front_ends x low) [ inl is ↦ inl is | inr last ↦ inr (inl last) ])
 
-pub insert_way : (name text : List ℕ) (v : Value) (manner : Manner) (lines : List Line) → AreLines lines
-    → HasWay (insert (Name name ∷ []) text ∷ []) (texts (comments (inside [] v)) ∷ []) lines (insert_lines name v manner lines)
-insert_way name text v manner lines formed =
-    let (s, plain, well) = put_lines name v manner lines in put_way name text v s lines (insert_lines name v manner lines) formed well
+pub insert_way : (q : Address) (name text : List ℕ) (v : Value) (manner : Manner) (lines : List Line) → HasSection lines q → AreLines lines
+    → HasWay (insert (child q name) text ∷ []) (texts (comments (inside [] v)) ∷ []) lines (insert_in q name v manner lines)
+insert_way q name text v manner lines there formed =
+    let (s, plain, well) = puts_lines q name v manner lines there in put_way q name text v s lines (insert_in q name v manner lines) formed well

@@ -18,7 +18,7 @@ use Rattle.toml_units.specs.Units.{TextUnit, comment_units, inside, units}
 use Rattle.toml_edits.specs.declared.side.Side.{Side}
 use Rattle.toml_edits.specs.declared.side.Side.TheVariants as sides
 use Rattle.toml_checker.specs.declared.tables.Part.TheVariants as parts
-use Rattle.toml_checker.specs.CarriedTo.{At, IsAtOrAbove}
+use Rattle.toml_checker.specs.CarriedTo.{At}
 use Rattle.toml_checker.specs.Comments.{texts, is_comment}
 use Rattle.toml_checker.specs.Owed.{IsOwed}
 use Rattle.toml_checker.specs.Plain.{Site, site, next_line, stands, is_named, is_kept, home_stands, part_is_gone}
@@ -26,15 +26,16 @@ use Rattle.toml_edits.specs.Sides.{side}
 use Rattle.toml_edits.proofs.Proved.{parted_at_last, sides_are_right}
 use Rattle.toml_editor.specs.ChangedUnits.{is_inner, LiesInValue}
 use Rattle.toml_working.specs.Removing.{remove_lines}
-use Rattle.toml_editor.specs.UnitBlocks.{pair_line, left_of, BeginWithLine}
-use Rattle.toml_working.specs.Written.{HasLine}
+use Rattle.toml_editor.specs.UnitBlocks.{pair_line_units, left_of, BeginWithLine}
+use Rattle.toml_working.specs.Written.{HasUndottedLine}
 use Rattle.toml_editor.proofs.Each.{each_front, each_back}
+use Rattle.toml_editor.proofs.written.Members.{above_member}
 use Rattle.toml_editor.proofs.written.RemoveKept.{removed_below}
 use Rattle.toml_editor.proofs.written.SetKept.{clear_carried}
 use Rattle.toml_editor.proofs.written.UnitsGone.{inner_line, value_in}
 use Rattle.toml_editor.proofs.written.UnitsTaken.{AreTaken, lines_taken}
 use Rattle.toml_editor.proofs.written.Way.{Step, old, new, olds, news, one_line, is_here}
-use Rattle.toml_editor.proofs.written.WayBlock.{line_after, olds_append, news_append, added_append, fits_append, new_olds, new_news, new_adds, lines_append, inside_lines}
+use Rattle.toml_editor.proofs.written.WayBlock.{old_olds, old_news, old_adds, line_after, olds_append, news_append, added_append, fits_append, new_olds, new_news, new_adds, lines_append, inside_lines}
 use Rattle.toml_editor.proofs.written.WayComments.{added, comments}
 use Rattle.toml_editor.proofs.written.WayFits.{Matches, Fits, SameNewline, newlines}
 use Rattle.toml_editor.proofs.written.WayKeeps.{ComesBlank, Keeps, next_after}
@@ -42,30 +43,7 @@ use Rattle.toml_editor.proofs.written.WayKept.{HeaderIsOwed, header_named, IsFix
 use Rattle.toml_editor.proofs.written.WayWhole.{HasWay, as_many}
 use Rattle.toml_editor.proofs.written.WayZip.{IsNear, lost_line, carried_to, lines_in}
 
--- ---- units that go, and units that stay
-
-old_olds : (us : List TextUnit) → olds (map old us) ≡ us
-old_olds [] = refl
-old_olds (u ∷ us) = ap (λ l. u ∷ l) (old_olds us)
-
-old_news : (us : List TextUnit) → news (map old us) ≡ []
-old_news [] = refl
-old_news (u ∷ us) = old_news us
-
-old_adds : (us : List TextUnit) → added (map old us) ≡ []
-old_adds [] = refl
-old_adds (u ∷ us) = old_adds us
-
--- what is above a member of a table is the table or above it
-above_member : (q : Address) (n : List ℕ) (a : Address) → IsAbove a (child q n) → IsAtOrAbove a q
-above_member q n [] above = (q, refl)
-above_member [] n (t ∷ []) (s, rest, is) = cc
-above_member [] n (t ∷ u ∷ a) (s, rest, is) = cc
-above_member (r ∷ q) n (t ∷ a) (s, rest, is) =
-    let head : r ≡ t = cc in
-    let tail : child q n ≡ a ++ s ∷ rest = cc in
-    let more = above_member q n a (s, rest, tail) in
-    (more.0, ap₂ (λ x y. x ∷ y) head more.1)
+-- ---- units that stay
 
 module _ (table : Address) (name : List ℕ) (before after : List (List ℕ)) where
   abbrev p : Address
@@ -251,11 +229,11 @@ module _ (table : Address) (name : List ℕ) (lines : List Line) where
   taken_keeps : (h : AreTaken table name (units lines) (units edited) (newlines lines) (newlines edited))
       → EachIs (IsFar table name (newlines lines) (newlines edited)) h.taken.front
       → EachIs (IsFar table name (newlines lines) (newlines edited)) h.taken.back
-      → lines_in (pair_line h.piece gone (length table) h.value h.comment) ≡ 1
+      → lines_in (pair_line_units h.piece gone (length table) h.value h.comment) ≡ 1
       → lines_in h.taken.front + (1 + lines_in h.taken.back) ≡ length (newlines lines)
       → lines_in h.taken.front + lines_in (left_of h.taken.back ++ h.taken.back) ≡ length (newlines edited)
       → Keep None None 0 0 (same_way h.taken.front ++
-      (map old (pair_line h.piece gone (length table) h.value h.comment) ++ (map new (left_of h.taken.back) ++ same_way h.taken.back)))
+      (map old (pair_line_units h.piece gone (length table) h.value h.comment) ++ (map new (left_of h.taken.back) ++ same_way h.taken.back)))
   taken_keeps h front_far back_far block_lines old_total new_total =
       let c = remove gone in
       let before = newlines lines in
@@ -263,7 +241,7 @@ module _ (table : Address) (name : List ℕ) (lines : List Line) where
       let front = h.taken.front in
       let back = h.taken.back in
       let left = left_of back in
-      let block = pair_line h.piece gone (length table) h.value h.comment in
+      let block = pair_line_units h.piece gone (length table) h.value h.comment in
       let n = lines_in front in
       let some = left_lines back h.taken.next in
       let line = line_after None (same_way front) in
@@ -328,7 +306,7 @@ module _ (table : Address) (name : List ℕ) (lines : List Line) where
       let left = left_of back in
       let inner = inside gone h.value in
       let tail = comment_units kinds.TailComment (Some gone) h.comment in
-      let block = pair_line h.piece gone (length table) h.value h.comment in
+      let block = pair_line_units h.piece gone (length table) h.value h.comment in
       let all_far = subst (EachIs (IsFar table name (newlines lines) (newlines edited))) h.taken.after far in
       let front_far = each_front _ front (left ++ back) all_far in
       let back_far = each_back _ left back (each_back _ front (left ++ back) all_far) in
@@ -383,7 +361,7 @@ module _ (table : Address) (name : List ℕ) (lines : List Line) where
       after_inner [] lies = refl
       after_inner (x ∷ xs) lies = ap (λ b. line_after (cond b (Some (site x)) (Some (Gone table name (newlines lines) (newlines edited)))) (map old xs)) (inner_line x.kind lies.0.0) ∙ after_inner xs lies.1
 
-      block_goes : (h : AreTaken table name (units lines) (units edited) (newlines lines) (newlines edited)) (line : Option Site) (n : ℕ) → Fitting line n n (map old (pair_line h.piece gone (length table) h.value h.comment))
+      block_goes : (h : AreTaken table name (units lines) (units edited) (newlines lines) (newlines edited)) (line : Option Site) (n : ℕ) → Fitting line n n (map old (pair_line_units h.piece gone (length table) h.value h.comment))
       block_goes h line n =
           let inner = inside gone h.value in
           let tail = comment_units kinds.TailComment (Some gone) h.comment in
@@ -408,6 +386,6 @@ module _ (table : Address) (name : List ℕ) (lines : List Line) where
           (same_fits table name (newlines lines) (newlines edited) (u ∷ us) far line (n + 1) n (inr (subst BeginWithLine (sym is) h.taken.next))
           (λ x low. inl (ap (slice_get (newlines lines)) (let e : (n + 1) + x ≡ n + suc x = omega arith in e) ∙ h.back_ends x (subst (λ l. x < lines_in l) is low))))
 
-  pub remove_way : AreLines lines → HasLine lines gone → KeepsRules (named lines)
+  pub remove_way : AreLines lines → HasUndottedLine lines gone → KeepsRules (named lines)
       → EachIs (IsFar table name (newlines lines) (newlines edited)) (units edited) → HasWay (remove gone ∷ []) ([] ∷ []) lines edited
   remove_way is there keeps far = way_by (lines_taken table name lines is there keeps) far

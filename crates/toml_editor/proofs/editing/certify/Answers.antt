@@ -18,7 +18,6 @@ returns-in-Found-clause-edited c =
         plain = c.requires.made.plain;
         passed = c.requires.made.passed;
         last = c.requires.made.last;
-        below = c.requires.made.below;
       };
       pieces = c.requires.made.pieces;
     }

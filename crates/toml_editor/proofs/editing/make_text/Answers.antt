@@ -11,9 +11,7 @@ use Rattle.toml_edits.specs.Drafts.{drafted}
 use Rattle.toml_edits.specs.Edits.{change}
 use Rattle.toml_edits.proofs.Proved.{leads_beside}
 use Rattle.toml_layout.specs.declared.texts.Texts.{Texts}
-use Rattle.toml_working.specs.Manners.{Manner}
 use Rattle.toml_working.specs.Starting.{read_of}
-use Rattle.toml_editor.specs.LastTexts.{ChangesLines, IsBelowHeader, IsInContainer, PutsBelowHeader}
 use Rattle.toml_editor.proofs.Answered.{if_ok_two}
 use Rattle.toml_editor.proofs.Judgements.{any_tells}
 use Rattle.toml_editor.proofs.NearFaults.{any_of_all, has_data}
@@ -75,12 +73,7 @@ returns-in-Ok-make_all-clause-made c =
           last_written profile (read_of c.args.read.before) d text c.in-Ok.tree document
           spells opened.stands (ap (λ (t : Texts). text_of t.source) opened.texts_are) opened.elements c.args.layout mannered cs old
           (beside (is_hidden c.args.touched.now) old new) c.make_all.new.tree (string_bytes made.text) facts leads
-          IsInContainer (λ (m : Manner). ChangesLines m.layout profile) c.in-Ok-make_all.ensures.made.done.holds written;
-      below =
-          last_written profile (read_of c.args.read.before) d text c.in-Ok.tree document
-          spells opened.stands (ap (λ (t : Texts). text_of t.source) opened.texts_are) opened.elements c.args.layout mannered cs old
-          (beside (is_hidden c.args.touched.now) old new) c.make_all.new.tree (string_bytes made.text) facts leads
-          IsBelowHeader (PutsBelowHeader profile) c.in-Ok-make_all.ensures.made.done.below written;
+          c.in-Ok-make_all.ensures.made.done.holds written;
       passed =
           no_spread_set profile (read_of c.args.read.before) d text c.in-Ok.tree document
           spells opened.stands (ap (λ (t : Texts). text_of t.source) opened.texts_are) opened.elements c.args.layout mannered

@@ -3,10 +3,8 @@ use Rattle.std.proofs.lemmas.List.{length-map, take_all}
 use Rattle.toml_edits.specs.Drafts.{drafted}
 use Rattle.toml_edits.specs.Edits.{change}
 use Rattle.toml_edits.specs.Lists.{Lead}
-use Rattle.toml_editor.specs.Exact.{HoldsLast, BelowLast, MakesAll}
-use Rattle.toml_editor.specs.LastTexts.{ChangesLines, IsBelowHeader, IsInContainer, PutsBelowHeader}
+use Rattle.toml_editor.specs.Exact.{HoldsLast, MakesAll}
 use Rattle.toml_editor.specs.Made.{places_in}
-use Rattle.toml_working.specs.Manners.{Manner}
 use Rattle.toml_working.specs.Starting.{read_of}
 use Rattle.toml_editor.proofs.MadeEdits.{any_of_one, get_map, led_on, take_map, taken_on}
 use Rattle.toml_editor.proofs.MakesExact.{last_made, more_made, more_passed, none_last, none_made, none_passed, stops_at}
@@ -29,8 +27,7 @@ loop-index-init c =
       (λ a. refl),
       none_made profile read tree,
       none_passed profile read (map change c.args.edits.now) (drafted c.args.draft.now) tree,
-      none_last IsInContainer (λ (m : Manner). ChangesLines m.layout profile) profile read tree,
-      none_last IsBelowHeader (PutsBelowHeader profile) profile read tree,
+      none_last profile read tree,
     )
 
 pub loop-index-preserved : goal.loop-index-preserved
@@ -52,9 +49,7 @@ loop-index-preserved c =
           (subst (λ ds. Lead profile ds near part) taken here.invariant.0) (subst (λ ds. MakesAll profile read ds old here.tree) taken here.invariant.1)
           (get_map edits here.index edit (omega arith) c.index-edits-index.is) c.in_default.ensures.made.done.passes,
       subst (λ ds. HoldsLast profile read ds old c.make.new.tree) (sym (taken_on edits here.index edit (omega arith) c.index-edits-index.is))
-          (last_made IsInContainer (λ (m : Manner). ChangesLines m.layout profile) profile read made (change edit) old here.tree c.make.new.tree here.invariant.1 c.in_default.ensures.made.done.holds),
-      subst (λ ds. BelowLast profile read ds old c.make.new.tree) (sym (taken_on edits here.index edit (omega arith) c.index-edits-index.is))
-          (last_made IsBelowHeader (PutsBelowHeader profile) profile read made (change edit) old here.tree c.make.new.tree here.invariant.1 c.in_default.ensures.made.done.below),
+          (last_made profile read made (change edit) old here.tree c.make.new.tree here.invariant.1 c.in_default.ensures.made.done.holds),
     )
 
 pub returns-in-Err-clause-told : goal.returns-in-Err-clause-told
@@ -87,7 +82,6 @@ returns-clause-made c =
       done = record {
         makes = subst (λ es. MakesAll profile (read_of c.args.read.before) (map change es) c.args.tree.now here.tree) all here.invariant.1;
         holds = subst (λ es. HoldsLast profile (read_of c.args.read.before) (map change es) c.args.tree.now here.tree) all here.invariant.3;
-        below = subst (λ es. BelowLast profile (read_of c.args.read.before) (map change es) c.args.tree.now here.tree) all here.invariant.4;
         passes = λ k low. here.invariant.2 k (omega (arith, low, length-map edits change));
       };
     }

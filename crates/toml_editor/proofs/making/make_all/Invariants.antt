@@ -2,7 +2,7 @@ use Rattle.std.proofs.Common.{map, take}
 use Rattle.toml_edits.specs.Drafts.{drafted}
 use Rattle.toml_edits.specs.Edits.{change}
 use Rattle.toml_edits.specs.Lists.{Lead}
-use Rattle.toml_editor.specs.Exact.{HoldsLast, BelowLast, MakesAll, PassesAll}
+use Rattle.toml_editor.specs.Exact.{HoldsLast, MakesAll, PassesAll}
 use Rattle.toml_working.specs.Starting.{read_of}
 use Rattle.toml_editor.proofs.making.make_all.Given as goal
 
@@ -12,4 +12,3 @@ invariant-loop-index l =
     × MakesAll l.read.profile (read_of l.read.before) (map change (take l.index l.edits)) l.initial.tree l.tree
     × PassesAll l.read.profile (read_of l.read.before) (map change l.edits) (drafted l.initial.draft) l.index l.initial.tree
     × HoldsLast l.read.profile (read_of l.read.before) (map change (take l.index l.edits)) l.initial.tree l.tree
-    × BelowLast l.read.profile (read_of l.read.before) (map change (take l.index l.edits)) l.initial.tree l.tree

@@ -1,7 +1,7 @@
 use Rattle.std.proofs.Common.{inl, inr, refl}
 use Rattle.toml_edits.specs.Drafts.{drafted}
 use Rattle.toml_editor.specs.Made.{places_in}
-use Rattle.toml_editor.proofs.MakesExact.{holds_one, below_one, makes_one, not_last, not_spread, passes_one}
+use Rattle.toml_editor.proofs.MakesExact.{holds_one, makes_one, not_last, not_spread, passes_one}
 use Rattle.toml_editor.proofs.Shapes.{made_is, not_made_is}
 use Rattle.toml_editor.proofs.making.make_here.Goals as goal
 
@@ -15,7 +15,6 @@ returns-clause-made c = record {
           | inl h ↦ inl h
           | inr h ↦ inr (c.in_ok-spread.ensures.no h)
         ]);
-    below = below_one _ _ _ _ _ c.in_ok-done.done c.in_ok-done.ensures;
     passes =
         passes_one _ _ (drafted c.args.draft.now) _ _ _ c.in_ok-done.done c.in_ok-done.ensures
         (elim (made_is c.in_ok-done.done _ _ c.not_made-is_spread.ensures c.if-is_spread.false) [

@@ -34,7 +34,7 @@ returns-in-Remove c =
       subst (λ a. RemovesLines a read c.args.tree.now c.remove.new.self) (at whole) made.0,
       subst (λ a. TakesFromValue a read c.args.tree.now c.remove.new.self done) (at whole) made.1,
     ))
-    (if_ok_with _ _ c.remove.result c.remove.ensures.root c.remove.ensures.value))
+    (if_ok_with _ _ c.remove.result c.remove.ensures.line c.remove.ensures.value))
 
 pub returns-in-Insert : goal.returns-in-Insert
 returns-in-Insert c =

@@ -1,7 +1,7 @@
 use Rattle.std.proofs.Common.{◌∙◌, ap, sym}
 use Rattle.std.proofs.lemmas.Result.{IfOk-weaker}
 use Rattle.toml_layout.specs.OpenOutlines.{leaf_text}
-use Rattle.toml_working.specs.FirstKeys.{alike_before, spacing_like}
+use Rattle.toml_working.specs.FirstKeys.{like_before, spacing_like}
 use Rattle.toml_working.specs.Looking.{BeginsBehind}
 use Rattle.toml_working.specs.LookingUp.{BeginsSection}
 use Rattle.toml_working.specs.Placing.{is_header, lines_before}
@@ -21,6 +21,6 @@ returns-then-is_header c =
     (λ r begins s there.
     let same = seen_found read.units slots c.args.behind c.seen.result c.in-Some.line read.lines s c.seen.ensures c.in-Some.is there in
     let head = ap (λ (f : Found). is_header f.base f.address) (sym same) ∙ sym c.is_header.ensures ∙ c.if-is_header.true in
-    begins s there ∙ ap (λ w. spacing_like w (alike_before w front)) (c.in_ok-look.ensures s there).ws
+    begins s there ∙ ap (λ w. spacing_like w (like_before w front)) (c.in_ok-look.ensures s there).ws
     ∙ sym (after_header front s.base s.address s.outline head))
     c.beginning_below.ensures

@@ -13,7 +13,7 @@ returns-then-found c inside all up =
     let here = c.loop-index.index in
     subst (λ b. GoesUp (leaf_text c.args.ws) read slots all (lines_before read slots c.args.place.slot (here - 1)) b c.in_ok-next.next) c.if-found.true
     (one_up (leaf_text c.args.ws) read slots c.args.place here (omega (arith, c.loop-index-test.true)) (omega (arith, c.loop-index.auto.index))
-    c.loop-index.first c.in_ok-next.next c.in_ok-next.found c.in_ok-next.ensures inside all (c.loop-index.invariant inside all up))
+    c.loop-index.last c.in_ok-next.next c.in_ok-next.found c.in_ok-next.ensures inside all (c.loop-index.invariant inside all up))
 
 pub loop-index-preserved : goal.loop-index-preserved
 loop-index-preserved c inside all up =
@@ -22,4 +22,4 @@ loop-index-preserved c inside all up =
     let here = c.loop-index.index in
     subst (λ b. GoesUp (leaf_text c.args.ws) read slots all (lines_before read slots c.args.place.slot (here - 1)) b c.in_ok-next.next) c.if-found.false
     (one_up (leaf_text c.args.ws) read slots c.args.place here (omega (arith, c.loop-index-test.true)) (omega (arith, c.loop-index.auto.index))
-    c.loop-index.first c.in_ok-next.next c.in_ok-next.found c.in_ok-next.ensures inside all (c.loop-index.invariant inside all up))
+    c.loop-index.last c.in_ok-next.next c.in_ok-next.found c.in_ok-next.ensures inside all (c.loop-index.invariant inside all up))

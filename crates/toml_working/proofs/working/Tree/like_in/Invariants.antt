@@ -11,4 +11,4 @@ invariant-loop-index l = let read = read_of l.before in
     let slots = l.self.slots.items in
     let above = lines_before read slots l.fn.place.slot in
     IsInSlot read slots l.fn.place → (all : List Standing) → GoneUp (leaf_text l.ws) read slots all (above l.fn.place.index) l.fn.last
-    → GoneUp (leaf_text l.ws) read slots all (above l.index) l.first
+    → GoneUp (leaf_text l.ws) read slots all (above l.index) l.last

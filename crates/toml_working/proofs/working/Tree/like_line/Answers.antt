@@ -1,6 +1,6 @@
 use Rattle.std.proofs.Common.{◌∙◌, ap, sym, subst}
 use Rattle.toml_layout.specs.OpenOutlines.{leaf_text}
-use Rattle.toml_working.specs.LookingUp.{GoneUp, first_pair_at}
+use Rattle.toml_working.specs.LookingUp.{GoneUp, last_pair_from}
 use Rattle.toml_working.specs.Placing.{is_header}
 use Rattle.toml_working.specs.Seeing.{Found}
 use Rattle.toml_working.specs.Starting.{read_of}
@@ -13,7 +13,7 @@ returns-then-not-is_header c s there all above up =
     let slots = c.args.self.now.slots.items in
     let ws = leaf_text c.args.ws in
     let same = seen_found read.units slots c.args.at c.seen.result c.in-Some.line read.lines s c.seen.ensures c.in-Some.is there in
-    subst (GoneUp ws read slots all above) (sym (c.first_pair.ensures ∙ ap (λ (f : Found). first_pair_at f.base c.args.at c.args.last) same))
+    subst (GoneUp ws read slots all above) (sym (c.last_pair_from.ensures ∙ ap (λ (f : Found). last_pair_from f.base c.args.at c.args.last) same))
     (past_line ws read slots all above s c.args.last up c.args.at there
     (ap (λ (f : Found). is_header f.base f.address) (sym same) ∙ sym c.is_header.ensures ∙ c.if-not-is_header.true))
 

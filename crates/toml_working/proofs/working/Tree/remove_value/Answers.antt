@@ -10,8 +10,8 @@ use Rattle.toml_working.proofs.HeldLines.{fewer_steps, line_held}
 use Rattle.toml_working.proofs.RemovedOne.{holder_goes, never_inside}
 use Rattle.toml_working.proofs.working.Tree.remove_value.Goals as goal
 
-pub returns-then-depth-steps-clause-root : goal.returns-then-depth-steps-clause-root
-returns-then-depth-steps-clause-root c =
+pub returns-then-depth-steps-clause-line : goal.returns-then-depth-steps-clause-line
+returns-then-depth-steps-clause-line c =
     let read = read_of c.args.before in
     let low : c.depth.result < length c.args.at.now = omega (arith, ap length c.steps.ensures) in
     on_ok_always _ c.change_value.result
@@ -28,8 +28,8 @@ returns-then-depth-steps-clause-value c =
     leads (λ x y h. h) changed ss stands ordered)
     c.change_value.ensures.slots
 
-pub returns-in_ok-remove_line-clause-root : goal.returns-in_ok-remove_line-clause-root
-returns-in_ok-remove_line-clause-root c =
+pub returns-in_ok-remove_line-clause-line : goal.returns-in_ok-remove_line-clause-line
+returns-in_ok-remove_line-clause-line c =
     holder_goes c.args.at.now (read_of c.args.before) c.args.self.now c.remove_line.new.self c.args.place c.in_ok-remove_line.ensures.rest
     c.in_ok-remove_line.ensures.slots
 
