@@ -17,7 +17,7 @@ use Rattle.toml_tree.specs.Tree.{Doc, Line}
 use Rattle.toml_tree.proofs.Proved.{one_tree}
 use Rattle.toml_delivery.specs.Outcomes.{Ends}
 use Rattle.toml_commands.specs.Refusals.{IsRefused}
-use Rattle.toml_commands.specs.Reading.{IsNameEnding, IsNameRefusal, IsNumbered, IsReadEnding, IsSyntaxEnding, IsTextRefusal, IsSyntaxRefusal, RefusesLines, code_of, name_code}
+use Rattle.toml_commands.specs.Reading.{IsNameRefusal, IsNumbered, IsReadEnding, IsSyntaxEnding, IsTextRefusal, IsSyntaxRefusal, RefusesLines, code_of, name_code}
 use Rattle.toml_tree.specs.declared.profile.Profile.{Profile}
 use Rattle.toml_names.specs.model.Documents.{IsDocumentIn}
 use Rattle.toml_names.specs.reader.Names.{AreGood, RefusesNames}
@@ -72,10 +72,6 @@ told_names : (lines : List Line) (fault : NameFault) (r : Refusal) → RefusesNa
 told_names lines (names.Redefined line at) r h k = inl (some_same 201 r.code k.0, line, at, some_same (line + 1) r.place k.1, h)
 told_names lines (names.LongAddress line) r h k = inr (some_same 203 r.code k.0, line, some_same (line + 1) r.place k.1, h)
 told_names lines names.NoMemory r h k = absurd (none-some r.code k.0)
-
-pub names_end : (lines : List Line) (fault : NameFault) (e : Ending) → RefusesNames lines fault → IsNameEnding fault e → Ends (RefusesLines lines) e
-names_end lines fault (ends.Refused r) h k = told_names lines fault r h k
-names_end lines fault ends.NoMemory h k = tt
 
 -- the lines of the one tree of the bytes are refused
 bad_names : (profile : Profile) (bytes : List ℕ) (d : Doc) (fault : NameFault) → Spells d bytes → RefusesNames d.lines fault → (fault ≡ names.NoMemory → ⊥) → ¬ IsDocumentIn profile bytes

@@ -1,5 +1,5 @@
 -- What is said of a refusal, by what the words name.
-use Rattle.std.proofs.Common.{◌≡◌, ◌≢◌, ◌≤◌, ◌<◌, ◌⊎◌, ◌∷◌, ◌++◌, ◌∙◌, [], ℕ, Bool, List, Option, Vec, Bor, Result, Ok, Err, inl, inr, refl, sym, ap, subst, arith, append-nil}
+use Rattle.std.proofs.Common.{◌≡◌, ◌≢◌, ◌≤◌, ◌<◌, ◌⊎◌, ◌∷◌, ◌++◌, ◌∙◌, [], ℕ, Bool, List, Option, Vec, Bor, Result, Ok, Err, inl, inr, refl, sym, ap, subst, append-nil}
 use Rattle.std.specs.Prelude.{IfOk}
 use Rattle.std.specs.declared.alloc.Global.{Global}
 use Rattle.toml_tree.specs.declared.profile.Profile.{Profile}
@@ -24,18 +24,6 @@ use Rattle.toml_delivery.specs.declared.ending.Ending.{Ending}
 use Rattle.toml_delivery.specs.declared.ending.Ending.TheVariants.{Refused, NoMemory}
 use Rattle.toml_commands.specs.declared.judging.JudgedWords.{JudgedWords}
 use Rattle.toml_delivery.specs.declared.refusal.Refusal.{Refusal}
-
--- the codes of reasons are near to one another
-pub code_bounds : (reason : Reason) → (401 ≤ reason_code reason) × (reason_code reason ≤ 409)
-code_bounds BeforeRefused = (omega arith, omega arith)
-code_bounds AfterRefused = (omega arith, omega arith)
-code_bounds EditsRefused = (omega arith, omega arith)
-code_bounds OtherData = (omega arith, omega arith)
-code_bounds BadPair = (omega arith, omega arith)
-code_bounds Lost = (omega arith, omega arith)
-code_bounds Unasked = (omega arith, omega arith)
-code_bounds NewComment = (omega arith, omega arith)
-code_bounds NotTheSame = (omega arith, omega arith)
 
 module _ {S E : Type 0} (f : S → List ℕ) (inputs : List (Vec ℕ Global)) (profile : Profile) where
   module _ (r : Refusal) (word bytes : List ℕ) where

@@ -1,5 +1,5 @@
 -- What the code does along a way, in the words of the tree.
-use Rattle.std.proofs.Common.{◌≡◌, ℕ, ◌+◌, ◌-◌, Bor, List, [], ◌∷◌, Option, Some, None, Bool, true, false, true≢false, is_some, cond, bytes_eq, string_bytes, refl, sym, ap, subst, ◌∙◌}
+use Rattle.std.proofs.Common.{◌≡◌, ℕ, ◌+◌, ◌-◌, List, [], ◌∷◌, Option, Some, None, Bool, true, false, true≢false, is_some, cond, bytes_eq, string_bytes, refl, sym, ap, subst, ◌∙◌}
 use Rattle.std.specs.Prelude.{IfSome, option_map, ◌==◌}
 use Rattle.std.specs.BTreeMap.{get, get_by_text, is_at}
 use Rattle.std.specs.Cmp.Lexicographic.{bytes_decides, slice_cmp}
@@ -8,20 +8,20 @@ use Rattle.std.specs.Cmp.{unsigned_ties}
 use Rattle.std.proofs.lemmas.Bool.{eqb-true, eq-eqb}
 use Rattle.std.proofs.lemmas.Option.{same_Some}
 use Rattle.toml_edits.specs.declared.shifts.Run.{Run}
-use Rattle.toml_edits.specs.Runs.{AreApart, index_in, with_lost, without}
+use Rattle.toml_edits.specs.Runs.{index_in, with_lost, without}
 use Rattle.toml_edits.proofs.Indices.{lost_here, lost_high, lost_low, without_high, without_low}
 use Rattle.std.specs.Map.{lookup}
 use Rattle.toml_names.specs.declared.model.address.Step.{Step}
 use Rattle.toml_names.specs.declared.model.address.Step.TheVariants.{Name, Index}
-use Rattle.toml_names.specs.model.Addresses.{Address, same_step}
+use Rattle.toml_names.specs.model.Addresses.{Address}
 use Rattle.toml_names.proofs.Proved.{same_step-self}
 use Rattle.toml_edits.specs.declared.moves.Moves.{Moves}
 use Rattle.toml_edits.specs.declared.moves.Moves.TheViews.{out-Moves}
 use Rattle.toml_edits.specs.declared.moves.Act.{Act}
 use Rattle.toml_edits.specs.declared.moves.Act.TheVariants as acts
-use Rattle.toml_edits.specs.Fronts.{Goes, SameBut, Along, IsMarked, with_set, with_below, with_renamed}
+use Rattle.toml_edits.specs.Fronts.{Goes, Along, IsMarked, with_set, with_below, with_renamed}
 use Rattle.toml_edits.specs.Trees.{Told, Down}
-use Rattle.toml_edits.specs.Moves.{Elements, Names, Entered, EnteredAt, EnteredElement, element_in, IsElementOpened, IsElementPut, IsFresh, IsKept, IsMarkedTree, IsOpened, IsPut, IsRenamedTree, LostAt, TakenAt, branch_of, down_of, marks_of, moves, to_of, turn}
+use Rattle.toml_edits.specs.Moves.{Elements, Names, Entered, EnteredAt, EnteredElement, element_in, IsElementOpened, IsElementPut, IsFresh, IsKept, IsOpened, IsPut, branch_of, down_of, marks_of, moves, to_of, turn}
 
 pub fresh_down : (to : Told (Option (List ℕ))) (f : Moves) → IsFresh to f → (u : Step) → down_of f u ≡ Some (Some (record { to = u; tree = None }))
 fresh_down to f h (Name n) = ap (λ (b : Bool). cond b (Some None) (branch_of n (get_by_text (out-Moves f).names n))) h.3 ∙ ap (branch_of n) (h.2 n)
@@ -59,9 +59,6 @@ fresh_goes act way n f t fresh h = (t, ap (named t) (h.0 ∙ fresh.0), as_none (
 
 -- ---- from the parts to the tree
 
-put_same : (n m : List ℕ) (t : Moves) (old new : Names) → IsPut n t old new → same_step (Name n) (Name m) ≡ false → get_by_text new m ≡ get_by_text old m
-put_same n m t old new put e = put m ∙ ap (λ (b : Bool). cond b (Some t) (get_by_text old m)) e
-
 put_here : (n : List ℕ) (t : Moves) (old new : Names) → IsPut n t old new → get_by_text new n ≡ Some t
 put_here n t old new put = put n ∙ ap (λ (b : Bool). cond b (Some t) (get_by_text old n)) (same_step-self (Name n))
 
@@ -73,12 +70,6 @@ pub record IsBehind (old new : Moves) (names : Names) (runs : List Run) (element
   pub names_are : (out-Moves new).names ≡ names
   pub runs_are : (out-Moves new).runs ≡ runs
   pub elements_are : (out-Moves new).elements ≡ elements
-
-down_name : (t : Moves) (n : List ℕ) → (out-Moves t).cleared ≡ false → down_of t (Name n) ≡ branch_of n (get_by_text (out-Moves t).names n)
-down_name t n e = ap (λ (b : Bool). cond b (Some None) (branch_of n (get_by_text (out-Moves t).names n))) e
-
-down_index : (t : Moves) (i : ℕ) → (out-Moves t).cleared ≡ false → down_of t (Index i) ≡ element_in (out-Moves t).elements (index_in (out-Moves t).runs i)
-down_index t i e = ap (λ (b : Bool). cond b (Some None) (element_in (out-Moves t).elements (index_in (out-Moves t).runs i))) e
 
 down_lost : (t : Moves) (u : Step) → (out-Moves t).cleared ≡ true → down_of t u ≡ Some None
 down_lost t (Name n) e = ap (λ (b : Bool). cond b (Some None) (branch_of n (get_by_text (out-Moves t).names n))) e
@@ -94,76 +85,6 @@ indices_same old new names b i =
     ∙ ap (λ (es : Elements). cond (out-Moves old).cleared (Some None) (element_in es (index_in (out-Moves new).runs i))) b.elements_are
     ∙ ap (λ (rs : List Run). cond (out-Moves old).cleared (Some None) (element_in (out-Moves old).elements (index_in rs i))) b.runs_are
 
-pub through_name : (act : Act) (way : Address) (n : List ℕ) (old new : Moves) (names : Names) → (out-Moves old).cleared ≡ false → IsBehind old new names (out-Moves old).runs (out-Moves old).elements → EnteredAt act n way (out-Moves old).names names → Entered act (Name n ∷ way) old new
-through_name act way n old new names plain b h = (b.to, (b.marks, same, goes))
-  where
-    got : (m : List ℕ) → get_by_text (out-Moves new).names m ≡ get_by_text names m
-    got m = ap (λ (ns : Names). get_by_text ns m) b.names_are
-
-    same : SameBut (Name n) (down_of old) (down_of new)
-    same (Name m) e = down_name new m (b.cleared ∙ plain) ∙ ap (branch_of m) (got m ∙ put_same n m h.0 (out-Moves old).names names h.1 e) ∙ sym (down_name old m plain)
-    same (Index i) e = indices_same old new names b i
-
-    goes : Goes (Along moves way (turn act)) (down_of old (Name n)) (down_of new (Name n))
-    goes =
-        subst (λ d. Goes (Along moves way (turn act)) d (down_of new (Name n))) (sym (down_name old n plain))
-        (subst (λ d. Goes (Along moves way (turn act)) (branch_of n (get_by_text (out-Moves old).names n)) d) (sym (down_name new n (b.cleared ∙ plain) ∙ ap (branch_of n) (got n ∙ put_here n h.0 (out-Moves old).names names h.1))) h.2)
-
--- an element that stands somewhere, no other of which stands there
-pub through_element : (act : Act) (way : Address) (i f : ℕ) (old new : Moves) (elements : Elements) → (out-Moves old).cleared ≡ false → IsBehind old new (out-Moves old).names (out-Moves old).runs elements → AreApart (out-Moves old).runs → index_in (out-Moves old).runs i ≡ Some f
-    → EnteredElement act f way (out-Moves old).elements elements → Entered act (Index i ∷ way) old new
-through_element act way i f old new elements plain b apart at h = (b.to, (b.marks, same, goes))
-  where
-    es : Elements
-    es = (out-Moves old).elements
-
-    rs : List Run
-    rs = (out-Moves old).runs
-
-    now : (j : ℕ) → down_of new (Index j) ≡ element_in elements (index_in rs j)
-    now j = down_index new j (b.cleared ∙ plain) ∙ ap (λ (x : Elements). element_in x (index_in (out-Moves new).runs j)) b.elements_are ∙ ap (λ (x : List Run). element_in elements (index_in x j)) b.runs_are
-
-    other : (j : ℕ) → ¬ (i ≡ j) → (o : Option ℕ) → index_in rs j ≡ o → element_in elements o ≡ element_in es o
-    other j ne None e = refl
-    other j ne (Some g) e = ap (λ (o : Option Moves). Some (Some (record { to = Index g; tree = o }))) (h.1 g ∙ ap (λ (x : Bool). cond x (Some h.0) (get nat_cmp es g)) (differs (f == g) refl))
-      where
-        differs : (x : Bool) → f == g ≡ x → x ≡ false
-        differs false y = refl
-        differs true y = absurd (ne (apart i j f at (e ∙ ap Some (sym (eqb-true f g y)))))
-
-    same : SameBut (Index i) (down_of old) (down_of new)
-    same (Name m) e = names_same old new rs elements b m
-    same (Index j) e = now j ∙ other j (λ s. let x : false ≡ true = sym e ∙ ap (λ (k : ℕ). i == k) (sym s) ∙ eq-eqb i i refl in cc) (index_in rs j) refl ∙ sym (down_index old j plain)
-
-    there : down_of old (Index i) ≡ Some (Some (record { to = Index f; tree = get nat_cmp es f }))
-    there = down_index old i plain ∙ ap (element_in es) at
-
-    behind : down_of new (Index i) ≡ Some (Some (record { to = Index f; tree = Some h.0 }))
-    behind = now i ∙ ap (element_in elements) at ∙ ap (λ (o : Option Moves). Some (Some (record { to = Index f; tree = o }))) (h.1 f ∙ ap (λ (x : Bool). cond x (Some h.0) (get nat_cmp es f)) (eq-eqb f f refl))
-
-    goes : Goes (Along moves way (turn act)) (down_of old (Index i)) (down_of new (Index i))
-    goes = subst (λ d. Goes (Along moves way (turn act)) d (down_of new (Index i))) (sym there) (h.0, behind, h.2)
-
--- one that stands nowhere
-pub past_element : (act : Act) (way : Address) (i : ℕ) (old new : Moves) → IsBehind old new (out-Moves old).names (out-Moves old).runs (out-Moves old).elements → index_in (out-Moves old).runs i ≡ None → Entered act (Index i ∷ way) old new
-past_element act way i old new b at = (b.to, (b.marks, same, subst (λ d. Goes (Along moves way (turn act)) d (down_of new (Index i))) (sym gone) (indices_same old new (out-Moves old).names b i ∙ gone)))
-  where
-    same : SameBut (Index i) (down_of old) (down_of new)
-    same (Name m) e = names_same old new (out-Moves old).runs (out-Moves old).elements b m
-    same (Index j) e = indices_same old new (out-Moves old).names b j
-
-    by : (x : Bool) → cond x (Some None) (element_in (out-Moves old).elements None) ≡ Some None
-    by true = refl
-    by false = refl
-
-    gone : down_of old (Index i) ≡ Some None
-    gone = ap (λ (o : Option ℕ). cond (out-Moves old).cleared (Some None) (element_in (out-Moves old).elements o)) at ∙ by (out-Moves old).cleared
-
--- where all below is lost it stays so
-pub through_lost : (act : Act) (s : Step) (way : Address) (old new : Moves) → (out-Moves old).cleared ≡ true → to_of new ≡ to_of old → marks_of new ≡ with_below (marks_of old) → (out-Moves new).cleared ≡ true → Entered act (s ∷ way) old new
-through_lost act s way old new lost to marks still =
-    (to, (marks, λ u e. down_lost new u still ∙ sym (down_lost old u lost), subst (λ d. Goes (Along moves way (turn act)) d (down_of new s)) (sym (down_lost old s lost)) (down_lost new s still)))
-
 -- ---- at the end of the way
 
 pub set_there : (old new : Moves) → to_of new ≡ to_of old → marks_of new ≡ with_set (marks_of old) → (out-Moves new).cleared ≡ true → Entered acts.Set [] old new
@@ -172,70 +93,6 @@ set_there old new to marks lost = (to, (marks, λ u. down_lost new u lost))
 all_same : (old new : Moves) → IsBehind old new (out-Moves old).names (out-Moves old).runs (out-Moves old).elements → (u : Step) → down_of new u ≡ down_of old u
 all_same old new b (Name n) = names_same old new (out-Moves old).runs (out-Moves old).elements b n
 all_same old new b (Index i) = indices_same old new (out-Moves old).names b i
-
-pub stay_there : (old new : Moves) → IsBehind old new (out-Moves old).names (out-Moves old).runs (out-Moves old).elements → Entered acts.Stay [] old new
-stay_there old new b = (b.to, (b.marks, all_same old new b))
-
--- the same of a mark
-marked_down : (old t : Moves) → IsMarkedTree old t → (u : Step) → down_of t u ≡ down_of old u
-marked_down old t b (Name n) = ap (λ (x : Bool). cond x (Some None) (branch_of n (get_by_text (out-Moves t).names n))) b.cleared ∙ ap (λ (ns : Names). cond (out-Moves old).cleared (Some None) (branch_of n (get_by_text ns n))) b.names
-marked_down old t b (Index i) =
-    ap (λ (x : Bool). cond x (Some None) (element_in (out-Moves t).elements (index_in (out-Moves t).runs i))) b.cleared
-    ∙ ap (λ (es : Elements). cond (out-Moves old).cleared (Some None) (element_in es (index_in (out-Moves t).runs i))) b.elements
-    ∙ ap (λ (rs : List Run). cond (out-Moves old).cleared (Some None) (element_in (out-Moves old).elements (index_in rs i))) b.runs
-
-pub mark_there : (old new : Moves) → IsMarkedTree old new → Entered acts.Mark [] old new
-mark_there old new b = (b.to, (b.marks, marked_down old new b))
-
--- under a name nothing stands any more; where all below is lost that is so before
-pub lose_there : (n : Bor (List ℕ)) (old new : Moves) (names : Names) → IsBehind old new names (out-Moves old).runs (out-Moves old).elements → LostAt n.now (out-Moves old).names names → Entered (acts.Lose n) [] old new
-lose_there n old new names b h = (b.to, (b.marks, (same, here (out-Moves old).cleared refl)))
-  where
-    same : SameBut (Name n.now) (down_of old) (down_of new)
-    same (Name m) e =
-        ap (λ (x : Bool). cond x (Some None) (branch_of m (get_by_text (out-Moves new).names m))) b.cleared ∙ ap (λ (ns : Names). cond (out-Moves old).cleared (Some None) (branch_of m (get_by_text ns m))) b.names_are
-        ∙ ap (λ (o : Option Moves). cond (out-Moves old).cleared (Some None) (branch_of m o)) (put_same n.now m h.0 (out-Moves old).names names h.1 e)
-    same (Index i) e = indices_same old new names b i
-
-    here : (x : Bool) → (out-Moves old).cleared ≡ x → down_of new (Name n.now) ≡ Some None
-    here true e = down_lost new (Name n.now) (b.cleared ∙ e)
-    here false e =
-        down_name new n.now (b.cleared ∙ e) ∙ ap (λ (ns : Names). branch_of n.now (get_by_text ns n.now)) b.names_are ∙ ap (branch_of n.now) (put_here n.now h.0 (out-Moves old).names names h.1)
-        ∙ ap (named h.0) h.2
-
--- or what stood under another one
-pub take_there : (n to : Bor (List ℕ)) (old new : Moves) (names : Names) → IsBehind old new names (out-Moves old).runs (out-Moves old).elements → TakenAt n.now to.now (out-Moves old).names names → Entered (acts.Take n to) [] old new
-take_there n to old new names b h = (b.to, (b.marks, (same, goes (out-Moves old).cleared refl, unknown (out-Moves old).cleared refl)))
-  where
-    pick : List ℕ → Bool → Bool → Option Moves
-    pick m x y = cond x (Some h.0) (cond y (Some h.1) (get_by_text (out-Moves old).names m))
-
-    now : (m : List ℕ) → down_of new (Name m) ≡ cond (out-Moves old).cleared (Some None) (branch_of m (pick m (bytes_eq n.now m) (bytes_eq to.now m)))
-    now m =
-        ap (λ (x : Bool). cond x (Some None) (branch_of m (get_by_text (out-Moves new).names m))) b.cleared ∙ ap (λ (ns : Names). cond (out-Moves old).cleared (Some None) (branch_of m (get_by_text ns m))) b.names_are
-        ∙ ap (λ (o : Option Moves). cond (out-Moves old).cleared (Some None) (branch_of m o)) (h.2 m)
-
-    same : (u : Step) → same_step (Name n.now) u ≡ false → same_step (Name to.now) u ≡ false → down_of new u ≡ down_of old u
-    same (Name m) e f = now m ∙ ap (λ (o : Option Moves). cond (out-Moves old).cleared (Some None) (branch_of m o)) (ap (λ (x : Bool). pick m x (bytes_eq to.now m)) e ∙ ap (pick m false) f)
-    same (Index i) e f = indices_same old new names b i
-
-    there : (m : List ℕ) → (out-Moves old).cleared ≡ false → down_of new (Name m) ≡ branch_of m (pick m (bytes_eq n.now m) (bytes_eq to.now m))
-    there m e = now m ∙ ap (λ (x : Bool). cond x (Some None) (branch_of m (pick m (bytes_eq n.now m) (bytes_eq to.now m)))) e
-
-    goes : (x : Bool) → (out-Moves old).cleared ≡ x → Goes (IsMarked moves) (down_of old (Name to.now)) (down_of new (Name n.now))
-    goes true e = subst (λ d. Goes (IsMarked moves) d (down_of new (Name n.now))) (sym (down_lost old (Name to.now) e)) (down_lost new (Name n.now) (b.cleared ∙ e))
-    goes false e =
-        subst (λ d. Goes (IsMarked moves) d (down_of new (Name n.now))) (sym (down_name old to.now e))
-        (subst (λ d. Goes (IsMarked moves) (branch_of to.now (get_by_text (out-Moves old).names to.now)) d)
-        (sym (there n.now e ∙ ap (branch_of n.now) (ap (λ (x : Bool). pick n.now x (bytes_eq to.now n.now)) (same_step-self (Name n.now))))) h.3)
-
-    unknown : (x : Bool) → (out-Moves old).cleared ≡ x → same_step (Name n.now) (Name to.now) ≡ false → IfSome (down_of new (Name to.now)) (λ d. down_of old (Name to.now) ≡ Some d)
-    unknown true e f = subst (λ w. IfSome w (λ d. down_of old (Name to.now) ≡ Some d)) (sym (down_lost new (Name to.now) (b.cleared ∙ e))) (down_lost old (Name to.now) e)
-    unknown false e f =
-        subst (λ w. IfSome w (λ d. down_of old (Name to.now) ≡ Some d))
-        (sym
-        (there to.now e ∙ ap (branch_of to.now) (ap (λ (x : Bool). pick to.now x (bytes_eq to.now to.now)) f ∙ ap (pick to.now false) (same_step-self (Name to.now))) ∙ ap (named h.1) h.4))
-        tt
 
 -- elements shift
 shifted : (old new : Moves) (runs : List Run) → IsBehind old new (out-Moves old).names runs (out-Moves old).elements → (j k : ℕ) → index_in runs j ≡ index_in (out-Moves old).runs k → down_of new (Index j) ≡ down_of old (Index k)
@@ -275,22 +132,6 @@ lose_at_there i old new b = (
         ∙ ap (λ (o : Option ℕ). cond (out-Moves old).cleared (Some None) (element_in (out-Moves old).elements o)) (lost_here i (out-Moves old).runs) ∙ by (out-Moves old).cleared
 
 -- ---- the tree that is put under the new name, of what was taken out
-
-taken_goes : (n to : List ℕ) (old t : Moves) → IsMarkedTree old t → Goes (IsMarked moves) (branch_of to (Some old)) (branch_of n (Some t))
-taken_goes n to old t b = by (to_of old) refl
-  where
-    by : (o : Told (Option (List ℕ))) → to_of old ≡ o → Goes (IsMarked moves) (option_map (option_map (λ m. record { to = Name m; tree = Some old })) o) (branch_of n (Some t))
-    by None e = ap (named t) (b.to ∙ e)
-    by (Some None) e = ap (named t) (b.to ∙ e)
-    by (Some (Some m)) e = (t, ap (named t) (b.to ∙ e), (b.marks, marked_down old t b))
-
-pub taken_tree : (to : List ℕ) (kept : Option Moves) (old t : Moves) → kept ≡ Some old → IsMarkedTree old t → IsRenamedTree to kept t
-taken_tree to kept old t is b = λ n. subst (λ o. Goes (IsMarked moves) (branch_of to o) (branch_of n (Some t))) (sym is) (taken_goes n to old t b)
-
-pub untaken_tree : (to : List ℕ) (kept : Option Moves) (f t : Moves) → kept ≡ None → IsFresh (Some (Some to)) f → IsMarkedTree f t → IsRenamedTree to kept t
-untaken_tree to kept f t is fresh b = λ n.
-    subst (λ o. Goes (IsMarked moves) (branch_of to o) (branch_of n (Some t))) (sym is)
-    (t, ap (named t) (b.to ∙ fresh.0), (b.marks ∙ ap with_renamed fresh.1, λ u. marked_down f t b u ∙ fresh_down (Some (Some to)) f fresh u))
 
 -- ---- what the code put in behind a name
 

@@ -65,9 +65,6 @@ lost_back i (r ∷ rs) j f h e = below_or_not i r.start (front (lost_back i rs j
             at_run r rs (j - 1) (omega (arith, l, h)) ∙ ap (λ (o : Option ℕ). further o (j - 1 - r.start)) is ∙ sym (further_on (Some t) (i - r.start) (j - (i + 1)) (j - 1 - r.start) (omega (arith, l, h)))
             ∙ sym (at_run (record { start = i + 1; to = further (Some t) (i - r.start) }) (record { start = i; to = None } ∷ rest_of i r rs) j (omega (arith, h))) ∙ y
 
-pub none_apart : AreApart []
-none_apart i j f e g = same_Some i j (e ∙ sym g)
-
 pub without_apart : (i : ℕ) (rs : List Run) → AreApart rs → AreApart (without i rs)
 without_apart i rs apart j k f e g = below_or_not j i
     (λ jl x. below_or_not k i

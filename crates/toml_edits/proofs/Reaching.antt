@@ -4,12 +4,11 @@ use Rattle.std.specs.BTreeMap.{get_by_text, is_at}
 use Rattle.std.specs.Cmp.Lexicographic.{slice_cmp}
 use Rattle.std.specs.Map.{lookup}
 use Rattle.std.specs.Prelude.{slice_get}
-use Rattle.toml_scalar.specs.declared.scalar.Scalar.{Scalar as Value}
 use Rattle.toml_names.specs.declared.model.address.Step.TheVariants.{Name, Index}
-use Rattle.toml_names.specs.declared.model.datum.Datum.{Datum, Scalar, Array, Table}
+use Rattle.toml_names.specs.declared.model.datum.Datum.{Datum, Array, Table}
 use Rattle.toml_names.specs.model.Data.{kind_at, kind_in}
 use Rattle.toml_names.specs.mentions.Mentions.{Kind}
-use Rattle.toml_names.proofs.Proved.{scalar-below, array-item, array-name, table-member, table-index, has_kind}
+use Rattle.toml_names.proofs.Proved.{array-item, array-name, table-member, table-index}
 use Rattle.toml_edits.specs.Reach.{Reaches}
 
 -- what a test answers, once it is known
@@ -29,13 +28,6 @@ NoneReaches steps (e ∷ es) = (¬ Reaches (kind_at e.1) steps) × NoneReaches s
 
 no_kind : {P : Type 0} (o : Option Kind) → o ≡ None → IsSome o → P
 no_kind o none some = absurd (true≢false (sym some ∙ ap is_some none))
-
-pub reaches_root : (d : Datum) (steps : ℕ) → steps ≡ 0 → Reaches (kind_at d) steps
-reaches_root d steps is = ([], has_kind d, omega arith)
-
-pub scalar_ends : (s : Value) (steps : ℕ) → ¬ (steps ≡ 0) → ¬ Reaches (kind_at (Scalar s)) steps
-scalar_ends s steps some ([], is, far) = some (omega arith)
-scalar_ends s steps some (t ∷ at, is, far) = no_kind _ (scalar-below s t at) is
 
 -- one step further
 pub array_reaches : (v : Vec Datum Global) (steps : ℕ) → ¬ (steps ≡ 0) → ((index : ℕ) × Reaches (kind_in (slice_get v.items index)) (steps - 1)) ↔ Reaches (kind_at (Array v)) steps

@@ -29,15 +29,9 @@ shown_here o t a trace is root h =
 walked : (o : Option Moves) (t : Moves) (s : Step) (r a : Address) → o ≡ Some t → a ≡ s ∷ r → walk moves o a ≡ step_on moves (marks_of t).renamed r (down_of t s)
 walked o t s r a is at = ap (λ x. walk moves x a) is ∙ ap (walk moves (Some t)) at
 
-pub shown_nowhere : (o : Option Moves) (t : Moves) (s : Step) (r a : Address) → o ≡ Some t → a ≡ s ∷ r → down_of t s ≡ Some None → walk moves o a ≡ Some None
-shown_nowhere o t s r a is at e = walked o t s r a is at ∙ ap (step_on moves (marks_of t).renamed r) e
-
 on_step : (o : Option Moves) (t : Moves) (s u : Step) (below : Option Moves) (r a : Address) → o ≡ Some t → a ≡ s ∷ r → down_of t s ≡ Some (Some (record { to = u; tree = below }))
     → walk moves o a ≡ told_above u (marks_of t).renamed (walk moves below r)
 on_step o t s u below r a is at e = walked o t s r a is at ∙ ap (step_on moves (marks_of t).renamed r) e
-
-pub shown_gone : (o : Option Moves) (t : Moves) (s u : Step) (below : Option Moves) (r a : Address) → o ≡ Some t → a ≡ s ∷ r → down_of t s ≡ Some (Some (record { to = u; tree = below })) → walk moves below r ≡ Some None → walk moves o a ≡ Some None
-shown_gone o t s u below r a is at e h = on_step o t s u below r a is at e ∙ ap (told_above u (marks_of t).renamed) h
 
 or_left : (b d : Bool) → b || d ≡ false → b ≡ false
 or_left b d e = grind arith

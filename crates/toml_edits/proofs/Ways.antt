@@ -118,10 +118,6 @@ carry_no_index (s ∷ p) c (t ∷ a) here names h = by (same_step s t) refl (car
 pub parted_of : (place q : Address) (s t : Step) → place ≡ q ++ s ∷ [] → s ≡ t → parted place ≡ Some (q, t)
 parted_of place q s t is same = ap parted is ∙ parted_at_last q s ∙ ap (λ (u : Step). Some (q, u)) same
 
-pub parted_none : (place : Address) → length place ≡ 0 → parted place ≡ None
-parted_none [] h = refl
-parted_none (s ∷ place) h = absurd (omega arith)
-
 -- ---- the carriers
 
 pub up_low : (i j : ℕ) (a : Address) → j < i → up_from i (Index j ∷ a) ≡ Some (Index j ∷ a)

@@ -4,11 +4,6 @@ use Rattle.toml_layout.specs.declared.tree.GapPart.{GapPart}
 use Rattle.toml_layout.specs.Gaps.{Beside, SplitsLast, begins_line, ends_container, is_comment, is_newline}
 use Rattle.toml_layout.specs.Leaving.{ends_in_comment, left_of_last_line, left_with_comma, lines_of, own_left, without_last}
 
-pub without_last_is : (ps : List GapPart) (p : GapPart) → without_last (ps ++ p ∷ []) ≡ ps
-without_last_is [] p = refl
-without_last_is (q ∷ []) p = refl
-without_last_is (q ∷ r ∷ ps) p = ap (λ t. q ∷ t) (without_last_is (r ∷ ps) p)
-
 pub ends_is : (ps : List GapPart) (p : GapPart) → ends_in_comment (ps ++ p ∷ []) ≡ is_comment p
 ends_is [] p = refl
 ends_is (q ∷ []) p = refl

@@ -1,13 +1,10 @@
 -- The gaps around an item that is put in on a line of its own.
-use Rattle.std.proofs.Common.{◌≡◌, ◌∙◌, ℕ, ◌+◌, ◌<◌, Bool, true, false, ◌&&◌, ◌||◌, List, [], ◌∷◌, ◌++◌, length, map, take, drop, get_or, Some, None, refl, ap, ap₂, sym, arith}
+use Rattle.std.proofs.Common.{◌≡◌, ◌∙◌, ℕ, ◌+◌, ◌<◌, Bool, true, false, ◌&&◌, ◌||◌, List, [], ◌∷◌, ◌++◌, length, map, take, get_or, Some, None, refl, ap, ap₂, sym}
 use Rattle.std.proofs.Math.Bool.{and-false}
-use Rattle.std.proofs.Math.ListN.{take-append-drop}
 use Rattle.std.proofs.lemmas.List.{take_more}
-use Rattle.std.specs.List.{list_all}
 use Rattle.toml_layout.specs.declared.tree.GapPart.{GapPart}
-use Rattle.toml_layout.specs.Gaps.{SplitsLast, begins_line, is_comment, is_newline}
-use Rattle.toml_layout.specs.Margins.{IndentsComment, are_tabs, has_comment, has_own_comment, is_tab_run, last_of, one_space, parting}
-use Rattle.toml_layout.specs.OpenOutlines.{gap_part_text}
+use Rattle.toml_layout.specs.Gaps.{begins_line, is_comment, is_newline}
+use Rattle.toml_layout.specs.Margins.{has_comment, has_own_comment, last_of, one_space, parting}
 use Rattle.toml_layout.specs.PartOutlines.{outlined, part}
 use Rattle.toml_layout.specs.Items.{gap_parts, item, items_of}
 use Rattle.toml_layout.specs.Rooms.{behind_comma}
@@ -17,7 +14,6 @@ use Rattle.toml_layout.specs.declared.tree.Value.TheViews.{out-Entries, out-Entr
 use Rattle.toml_lists.specs.Gaps.{items}
 use Rattle.std.proofs.lemmas.Option.{none-some, same_Some}
 use Rattle.std.specs.Prelude.{slice_get}
-use Rattle.toml_layout.proofs.Small.{dropped}
 
 -- ---- comments on lines of their own
 
@@ -68,28 +64,7 @@ pub own_no_line : (ps : List GapPart) (i : ℕ) (d : GapPart) (front : List GapP
 own_no_line ps i d front low is none so_far =
     own_on ps i d low (ap (λ b. b && is_comment (get_or ps i d)) (ap begins_line (sym is) ∙ none)) so_far
 
-pub indents_at : (ps : List GapPart) (i : ℕ) (p : GapPart) (front lines indent : List GapPart) → i < length ps → p ≡ get_or ps i p → is_comment p ≡ true
-    → front ≡ take i ps → SplitsLast front lines indent → has_own_comment (take i ps) ≡ false → IndentsComment ps indent
-indents_at ps i p front lines indent low is one front_is own none = record {
-  front = front;
-  comment = p;
-  behind = drop (i + 1) ps;
-  is = sym (take-append-drop i ps) ∙ ap₂ ◌++◌ (sym front_is) (dropped ps i p low is);
-  is_one = one;
-  lines = lines;
-  own = own;
-  first = ap has_own_comment front_is ∙ none;
-}
-
 -- ---- tabs
-
-pub tabs_not : (ps : List GapPart) → list_all (λ q. is_tab_run (gap_part_text q)) ps ≡ false → are_tabs ps ≡ false
-tabs_not [] none = refl
-tabs_not (p ∷ ps) none = none
-
-pub tabs_all : (ps : List GapPart) → list_all (λ q. is_tab_run (gap_part_text q)) ps ≡ true → 0 < length ps → are_tabs ps ≡ true
-tabs_all [] all some = absurd (omega arith)
-tabs_all (p ∷ ps) all some = all
 
 -- ---- the last part
 
@@ -102,10 +77,6 @@ pub last_outlined : (ps rest : List GapPart) (p : GapPart) (made : List GapPart)
     → outlined made ≡ outlined (last_of ps)
 last_outlined ps rest p made q is made_is same =
     ap outlined made_is ∙ ap (λ o. o ∷ []) same ∙ sym (ap outlined (ap last_of is ∙ last_is rest p))
-
-pub last_none : (ps : List GapPart) → length ps ≡ 0 → last_of ps ≡ []
-last_none [] none = refl
-last_none (p ∷ ps) none = absurd (omega arith)
 
 -- ---- behind the first comma
 

@@ -1,11 +1,10 @@
 -- Which pairs a `remove` takes out, as loops go over them.
-use Rattle.std.proofs.Common.{◌≡◌, ◌∙◌, ◌+◌, ◌<◌, ◌≤◌, ◌||◌, ℕ, zero, suc, Bool, true, false, List, [], ◌∷◌, ◌++◌, map, reverse, take, length, Option, Some, None, Vec, inl, inr, refl, ap, ap₂, sym, arith, add-one}
+use Rattle.std.proofs.Common.{◌≡◌, ◌∙◌, ◌+◌, ◌<◌, ◌≤◌, ◌||◌, ℕ, zero, suc, Bool, true, false, List, [], ◌∷◌, ◌++◌, map, reverse, take, length, Vec, inl, inr, refl, ap, ap₂, sym, arith, add-one}
 use Rattle.std.proofs.lemmas.Bool.{false≢true}
 use Rattle.std.proofs.lemmas.List.{map-set}
 use Rattle.std.proofs.lemmas.Option.{slice_get_past}
 use Rattle.std.specs.Global.{Global}
 use Rattle.std.specs.List.{list_any}
-use Rattle.std.specs.Prelude.{option_and_then, option_map, slice_get}
 use Rattle.toml_lists.proofs.Proved.{before_get, before_set, behind_get, behind_set}
 use Rattle.toml_lists.specs.Gaps.{LiesAt, items}
 use Rattle.toml_lists.specs.declared.gap_list.Side.TheVariants.{Before, Behind}
@@ -14,19 +13,9 @@ use Rattle.toml_layout.specs.declared.tree.Entries.{Entries}
 use Rattle.toml_layout.specs.declared.tree.Entry.{Entry}
 use Rattle.toml_layout.specs.declared.tree.Value.TheViews.{out-Entries, roll-Entries}
 use Rattle.toml_layout.specs.Items.{Item, item, items_of}
-use Rattle.toml_layout.specs.Leading.{pair_key}
 use Rattle.toml_layout.specs.PairPlaces.{item_key}
 use Rattle.toml_layout.specs.PairRemovals.{EmptiesEntry, EmptiesIf, is_kept, is_left, keeps_at, key_reaches, marks_at, reaches_at}
-use Rattle.toml_layout.proofs.ItemGaps.{item_at, item_count, item_there, items_made}
-
--- whether the key of the pair with the index reaches so far
-pub reaches_is : (e : Entries) (steps : Address) (i : ℕ)
-    → reaches_at steps (items_of e).list i ≡ key_reaches steps (option_and_then pair_key (slice_get (items (out-Entries e).list) i))
-reaches_is e steps i = ap (λ o. key_reaches steps (option_and_then item_key o)) (item_at e i) ∙ by (slice_get (items (out-Entries e).list) i)
-  where
-    by : (o : Option Entry) → key_reaches steps (option_and_then item_key (option_map item o)) ≡ key_reaches steps (option_and_then pair_key o)
-    by None = refl
-    by (Some x) = refl
+use Rattle.toml_layout.proofs.ItemGaps.{item_count, item_there, items_made}
 
 -- ---- marks
 
@@ -63,9 +52,6 @@ none_kept parent steps (x ∷ list) none =
 pub left_so : (parent steps : Address) (list : List Item) (b : Bool) → ¬ (parent ≡ []) → list_any (is_kept parent steps) list ≡ b → is_left parent steps list ≡ b
 left_so [] steps list b some is = absurd (some refl)
 left_so (s ∷ parent) steps list b some is = is
-
-pub left_root : (parent steps : Address) (list : List Item) → parent ≡ [] → is_left parent steps list ≡ true
-left_root parent steps list none = ap (λ p. is_left p steps list) none
 
 -- ---- a pair that is emptied
 

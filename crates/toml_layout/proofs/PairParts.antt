@@ -9,7 +9,7 @@ use Rattle.toml_layout.specs.declared.tree.Entry.{Entry}
 use Rattle.toml_layout.specs.declared.tree.Value.TheViews.{out-Entries}
 use Rattle.toml_layout.specs.Items.{Item, item, items_of}
 use Rattle.toml_layout.specs.Leading.{pair_key}
-use Rattle.toml_layout.specs.PairPlaces.{IsBehindLast, IsPlaceBelow, equals_above, goes_on, goes_on_at, item_equals, item_key}
+use Rattle.toml_layout.specs.PairPlaces.{IsPlaceBelow, equals_above, goes_on, goes_on_at, item_equals, item_key}
 use Rattle.toml_layout.proofs.ItemGaps.{item_at}
 use Rattle.toml_layout.proofs.TakenParts.{above_at}
 
@@ -24,11 +24,6 @@ goes_on_is e steps i = ap (λ o. goes_on steps (option_and_then item_key o)) (it
 -- none does behind the last one
 pub none_past : (e : Entries) (steps : Address) (i : ℕ) → length (items_of e).list ≤ i → goes_on_at steps (items_of e).list i ≡ false
 none_past e steps i past = ap (λ o. goes_on steps (option_and_then item_key o)) (slice_get_past (items_of e).list i past)
-
--- the place behind the last pair below a table other than this one
-pub place_below : (parent : Address) (list : List Item) (i : ℕ) → ¬ (parent ≡ []) → IsBehindLast (goes_on_at parent list) (length list) i → IsPlaceBelow parent list i
-place_below [] list i some place = absurd (some refl)
-place_below (s ∷ parent) list i some place = place
 
 pub no_parent : (parent : Address) (list : List Item) (i : ℕ) → parent ≡ [] → i ≡ length list → IsPlaceBelow parent list i
 no_parent [] list i none is = is

@@ -1,14 +1,13 @@
 -- The room that is made for an item.
-use Rattle.std.proofs.Common.{◌≡◌, ◌∙◌, ◌-◌, ℕ, Bool, List, [], length, Option, Some, None, ap, sym, subst, subst₂, arith}
-use Rattle.std.proofs.lemmas.Option.{slice_get_past}
-use Rattle.std.specs.Prelude.{option_map, slice_get, unwrap_or}
+use Rattle.std.proofs.Common.{◌≡◌, ◌∙◌, ℕ, Bool, List, [], Option, Some, None, ap, sym, subst}
+use Rattle.std.specs.Prelude.{option_map, unwrap_or}
 use Rattle.toml_layout.specs.declared.tree.Gap.{Gap}
 use Rattle.toml_layout.specs.declared.tree.GapPart.{GapPart}
 use Rattle.toml_layout.specs.Gaps.{SplitsLast}
-use Rattle.toml_layout.specs.Items.{ChangesAfter, Item, Items, gap_parts, last_item, with_after, with_end}
-use Rattle.toml_layout.specs.Margins.{IsMarginAlone, IsOnLine, PutsLine, margin}
+use Rattle.toml_layout.specs.Items.{Item, Items, gap_parts, with_end}
+use Rattle.toml_layout.specs.Margins.{IsMarginAlone, IsOnLine, margin}
 use Rattle.toml_layout.specs.PartOutlines.{IsParted, outlined}
-use Rattle.toml_layout.specs.Rooms.{AloneBy, BesideBy, OnLineBy, Room, RoomAlone, RoomBeside, RoomBesideOf, RoomOnLine, beside}
+use Rattle.toml_layout.specs.Rooms.{AloneBy, BesideBy, Room, RoomAlone, RoomBeside, RoomBesideOf, RoomOnLine, beside}
 use Rattle.toml_layout.proofs.LeftParts.{begins_so}
 
 abbrev room_with : Items → List GapPart → List GapPart → Room
@@ -22,38 +21,6 @@ pub unwrapped : (o : Option Gap) (d r : Gap) (end : Option (List GapPart)) → r
     → gap_parts r ≡ unwrap_or end []
 unwrapped None d r end is none stood = ap gap_parts is ∙ none ∙ ap (λ (o : Option (List GapPart)). unwrap_or o []) stood
 unwrapped (Some g) d r end is none stood = ap gap_parts is ∙ ap (λ (o : Option (List GapPart)). unwrap_or o []) stood
-
--- ---- on a line of its own
-
-module _ (m mid new : Items) (i : ℕ) (own before after : List GapPart) (past : slice_get m.list i ≡ None) (took : mid ≡ with_end m None) where
-  pub on_line_end : (end behind : List GapPart) → Some end ≡ m.end → PutsLine end own before behind → new ≡ with_end mid (Some behind) → after ≡ []
-      → RoomOnLine m i own (record { items = new; before = before; after = after })
-  on_line_end end behind is puts now none =
-      subst₂ (λ o e. OnLineBy m i own (record { items = new; before = before; after = after }) o e (last_item m)) (sym past) is
-      (behind, puts, now ∙ ap (λ (k : Items). with_end k (Some behind)) took, none)
-
-  pub on_line_last : (last : ℕ) (gap was : List GapPart) → None ≡ m.end → last ≡ length mid.list - 1 → gap ≡ [] → ChangesAfter last gap mid new was
-      → PutsLine was own before after → RoomOnLine m i own (record { items = new; before = before; after = after })
-  on_line_last last gap was is at none changes puts =
-      let same : mid ≡ m = took ∙ ap (with_end m) is in
-      let there : last ≡ length m.list - 1 = at ∙ ap (λ (k : Items). length k.list - 1) same in
-      let changed = subst (λ (k : Items). ChangesAfter last gap k new was) same changes in
-      let found : Some changed.item ≡ last_item m = sym changed.here ∙ ap (slice_get m.list) there in
-      subst₂ (λ o e. OnLineBy m i own (record { items = new; before = before; after = after }) o e (last_item m)) (sym past) is
-      (subst (λ l. OnLineBy m i own (record { items = new; before = before; after = after }) None None l) found (
-        subst (λ w. PutsLine w own before after) changed.stood puts,
-        changed.now ∙ ap (λ k. with_after m k changed.item gap) there ∙ ap (with_after m (length m.list - 1) changed.item) none,
-      ))
-
-  pub on_line_none : None ≡ m.end → length mid.list ≡ 0 → new ≡ mid → before ≡ [] → after ≡ []
-      → RoomOnLine m i own (record { items = new; before = before; after = after })
-  on_line_none is none now before_is after_is =
-      let same : mid ≡ m = took ∙ ap (with_end m) is in
-      let empty : length m.list ≡ 0 = sym (ap (λ (k : Items). length k.list) same) ∙ none in
-      subst₂ (λ o e. OnLineBy m i own (record { items = new; before = before; after = after }) o e (last_item m)) (sym past) is
-      (subst (λ l. OnLineBy m i own (record { items = new; before = before; after = after }) None None l)
-      (sym (slice_get_past m.list (length m.list - 1) (omega (arith, empty))))
-      (made new m before [] after [] (now ∙ same) before_is after_is))
 
 -- ---- between brackets where no item stands
 

@@ -3,7 +3,7 @@ use Rattle.std.proofs.Common.{◌≡◌, ◌≢◌, ◌∙◌, ◌<◌, ◌≤�
 use Rattle.std.proofs.lemmas.List.Edits.{insert_end}
 use Rattle.std.proofs.lemmas.Bool.{cases_lt, false≢true}
 use Rattle.std.proofs.lemmas.List.{length-map, map-append, set-set, take-map}
-use Rattle.std.proofs.lemmas.Option.{none-some, same_Some, slice_get-map, slice_get_past}
+use Rattle.std.proofs.lemmas.Option.{none-some, same_Some, slice_get-map}
 use Rattle.std.specs.List.{insert, remove}
 use Rattle.std.specs.Prelude.{option_map, slice_get}
 use Rattle.toml_layout.specs.declared.tree.Entries.{Entries}
@@ -86,18 +86,6 @@ parted_above e i x parts some here parted =
     subst (λ o. IsPartedIf (option_map (λ a. a.after) o) (Some parts))
     (sym (above_at (items_of e) i some ∙ slice_get-map item (items (out-Entries e).list) (i - 1) ∙ ap (option_map item) here)) (parts, parted, refl)
 
-pub parted_next : (e : Entries) (i : ℕ) (x : Entry) (parts : List GapPart) → slice_get (items (out-Entries e).list) i ≡ Some x
-    → IsParted (gap_parts (out-Entry x).before) parts → IsPartedIf (gap_behind (slice_get (items_of e).list i) (items_of e).end) (Some parts)
-parted_next e i x parts here parted =
-    subst (λ o. IsPartedIf (gap_behind o (items_of e).end) (Some parts))
-    (sym (slice_get-map item (items (out-Entries e).list) i ∙ ap (option_map item) here)) (parts, parted, refl)
-
-pub parted_end : (e : Entries) (i : ℕ) (all : Option (List GapPart)) → slice_get (items (out-Entries e).list) i ≡ None → IsPartedIf (items_of e).end all
-    → IsPartedIf (gap_behind (slice_get (items_of e).list i) (items_of e).end) all
-parted_end e i all none parted =
-    subst (λ o. IsPartedIf (gap_behind o (items_of e).end) all)
-    (sym (slice_get-map item (items (out-Entries e).list) i ∙ ap (option_map item) none)) parted
-
 -- ---- one is taken out of the list
 
 pub without_is : (old : Entries) (list : GapList Entry) (i : ℕ) → items list ≡ remove (items (out-Entries old).list) i
@@ -139,15 +127,6 @@ pub plain_end : (m mid new : Items) (i : ℕ) (own : Item) (left end gap : List 
     → new ≡ with_end mid (Some gap) → left ≡ around_item own → gap ≡ followed left end → new ≡ leaves_plain m i own
 plain_end m mid new i own left end gap past is took now left_is gap_is =
     now ∙ ap (λ (k : Items). with_end k (Some gap)) took ∙ ap (λ g. with_end m (Some g)) (gap_is ∙ ap (λ l. followed l end) left_is)
-    ∙ ap (λ o. taken_by m i own None o (last_item m)) is ∙ sym (ap (λ o. taken_by m i own o m.end (last_item m)) past)
-
-pub plain_alone : (m mid new : Items) (i : ℕ) (own : Item) (left : List GapPart) → slice_get m.list i ≡ None → None ≡ m.end → mid ≡ with_end m None
-    → length mid.list ≡ 0 → new ≡ with_end mid (Some left) → left ≡ around_item own → new ≡ leaves_plain m i own
-plain_alone m mid new i own left past is took none now left_is =
-    let same : mid ≡ m = took ∙ ap (with_end m) is in
-    let empty : length m.list ≡ 0 = sym (ap (λ (k : Items). length k.list) same) ∙ none in
-    now ∙ ap (λ (k : Items). with_end k (Some left)) took ∙ ap (λ g. with_end m (Some g)) left_is
-    ∙ sym (ap (taken_by m i own None None) (slice_get_past m.list (length m.list - 1) (omega (arith, empty))))
     ∙ ap (λ o. taken_by m i own None o (last_item m)) is ∙ sym (ap (λ o. taken_by m i own o m.end (last_item m)) past)
 
 pub plain_last : (m mid new : Items) (i last : ℕ) (own it : Item) (was gap : List GapPart) → slice_get m.list i ≡ None → None ≡ m.end → mid ≡ with_end m None

@@ -1,7 +1,5 @@
 -- Values that are found in a value at steps.
-use Rattle.std.proofs.Common.{◌≡◌, ◌≢◌, ◌⊎◌, ◌+◌, ℕ, zero, suc, true, false, List, [], ◌∷◌, ◌++◌, drop, Option, Some, None, is_some, slice_get, Bor, refl, sym, ap, ◌∙◌, subst, arith, inl, inr}
-use Rattle.toml_scalar.specs.declared.kind.ScalarKind.{ScalarKind}
-use Rattle.toml_tree.specs.Pieces.{piece_of}
+use Rattle.std.proofs.Common.{◌≡◌, ◌≢◌, ◌⊎◌, ◌+◌, ℕ, zero, suc, true, false, List, [], ◌∷◌, ◌++◌, Option, Some, None, is_some, slice_get, Bor, refl, sym, ap, ◌∙◌, subst, arith, inl, inr}
 use Rattle.toml_tree.specs.ReadingValues.{Element, Member, before_end, pairs_before_end}
 use Rattle.toml_tree.specs.Tree.{Piece, Gap, Value, Scalar, Array, Inline, Close, ClosePairs, KeyVal, Expr}
 use Rattle.toml_tree.specs.View.{array_items, last_ends, table_pairs, last_pairs}
@@ -22,13 +20,6 @@ itself : (v : Value) → StandsIn v [] v
 itself (Scalar kind p) = (refl, refl)
 itself (Array whole items) = inl (refl, refl)
 itself (Inline whole pairs) = inl (refl, refl)
-
-pub finds_itself : (v : Value) (at : Address) (text : Bor (List ℕ)) → at ≡ [] → text.now ≡ (piece_of v).text → Finds v at (Some text)
-finds_itself v at text none is = (v, subst (λ a. StandsIn v a v) (sym none) (itself v), is)
-
--- nothing stands in a scalar at steps
-pub nothing_in_scalar : (kind : ScalarKind) (p : Piece) (at : Address) → (at ≡ [] → ⊥) → Finds (Scalar kind p) at None
-nothing_in_scalar kind p at some w h = some h.0
 
 -- an element from an index on
 abbrev Located : ℕ → List Element → Address → Value → Type 0
@@ -177,24 +168,12 @@ finds_in_pair p key rest at found key_is is =
 pub finds_no_pair : (p : KeyVal) (key at : Address) → key ≡ below [] (key_names p.assign.key) → ((rest : Address) → at ≢ key ++ rest) → FindsInPair p at None
 finds_no_pair p key at key_is none w (rest, is, stands) = none rest (is ∙ ap (λ k. k ++ rest) (sym key_is))
 
--- one of the pairs from a place on is one of all
-pub later_pairs : (at : Address) (w : Value) (ms : List Member) (i : ℕ) → IsInPairs (drop i ms) at w → IsInPairs ms at w
-later_pairs at w ms zero h = h
-later_pairs at w [] (suc i) h = absurd h
-later_pairs at w (m ∷ ms) (suc i) h = inr (later_pairs at w ms i h)
-
 -- what is among the pairs is among those from a place on
 abbrev pub AreLater : Address → List Member → List Member → Type 0
 AreLater at all left = (w : Value) → IsInPairs all at w → IsInPairs left at w
 
-pub later_start : (at : Address) (ms : List Member) → AreLater at ms ms
-later_start at ms w h = h
-
 pub later_next : (at : Address) (all left : List Member) (m : Member) (more : List Member) → AreLater at all left → left ≡ m ∷ more → FindsInPair m.pair at None → AreLater at all more
 later_next at all left m more later is none w h = elim (subst (λ l. IsInPairs l at w) is (later w h)) [ inl here ↦ absurd (none w here) | inr behind ↦ behind ]
-
-pub finds_no_pairs : (at : Address) (all left : List Member) → AreLater at all left → left ≡ [] → FindsInPairs all at None
-finds_no_pairs at all left later none w h = subst (λ l. IsInPairs l at w) none (later w h)
 
 -- what is among some is among all
 abbrev pub ArePart : Address → List Member → List Member → Type 0
@@ -218,10 +197,3 @@ finds_of_line e v own rest at found value is = finds_alike (StandsIn v rest) (Is
         let one : Some u ≡ Some v = sym there ∙ value in
         let same : u ≡ v = cc in
         subst (λ x. StandsIn x rest w) same (subst (λ a. StandsIn u a w) (cancel own more rest (sym was ∙ is)) stands)
-
-pub finds_no_line : (e : Expr) (own at : Address) → ((rest : Address) → at ≢ own ++ rest) → FindsOfLine e own at None
-finds_no_line e own at none w (v, rest, there, is, stands) = none rest is
-
--- a line of no value
-pub finds_no_value : (e : Expr) (own at : Address) → value_of e ≡ None → FindsOfLine e own at None
-finds_no_value e own at none w (v, rest, there, is, stands) = let no : None ≡ Some v = sym none ∙ there in cc

@@ -1,9 +1,9 @@
 -- What is printed of a part is what stands at its place.
-use Rattle.std.proofs.Common.{◌≡◌, ◌++◌, ℕ, List, [], Option, Some, None, IsSome, is_some, true, false, refl, sym, ap, ◌∙◌, subst}
+use Rattle.std.proofs.Common.{◌≡◌, ◌++◌, ℕ, List, [], Option, Some, None, IsSome, is_some, true, false, sym, ap, ◌∙◌, subst}
 use Rattle.std.proofs.Math.Path.{fun_ext}
 use Rattle.std.proofs.lemmas.List.{append-nil}
 use Rattle.toml_scalar.specs.Values.{ScalarValue}
-use Rattle.toml_names.specs.mentions.Mentions.{Kind, a_scalar}
+use Rattle.toml_names.specs.mentions.Mentions.{a_scalar}
 use Rattle.toml_names.specs.model.Addresses.{Address}
 use Rattle.toml_names.specs.model.Data.{Kinds, IsClosed}
 use Rattle.toml_names.specs.reader.Parts.{part_kinds}
@@ -12,12 +12,12 @@ use Rattle.toml_places.specs.Leading.{LeadsTo, LeadsNowhere, below_steps}
 use Rattle.toml_places.specs.Parts.{Stands}
 use Rattle.toml_places.specs.declared.place.PlaceStep.{PlaceStep}
 use Rattle.toml_places.proofs.Proved.{one_address, below_steps_closed, part_is_there}
-use Rattle.toml_print.specs.JsonTexts.{json_scalar, scalar_text, text_with, tagged_scalar}
-use Rattle.toml_print.specs.Printed.{IsPrinted, NothingAt, PrintsAt, plain_text, standing, type_name}
-use Rattle.toml_print.specs.Trees.{Tree, scalar, array, table, IsTreeOf}
+use Rattle.toml_print.specs.JsonTexts.{scalar_text, text_with, tagged_scalar}
+use Rattle.toml_print.specs.Printed.{IsPrinted, NothingAt, PrintsAt, plain_text, standing}
+use Rattle.toml_print.specs.Trees.{scalar}
 use Rattle.toml_print.specs.Writing.{Writes, PrintsBehind}
 use Rattle.toml_print.specs.declared.form.Form.{Form}
-use Rattle.toml_print.specs.declared.form.Form.TheVariants.{Plain, Json, Tagged, TypeName}
+use Rattle.toml_print.specs.declared.form.Form.TheVariants.{Plain, Tagged}
 use Rattle.toml_print.specs.declared.style.Style.TheVariants as styles
 use Rattle.toml_print.proofs.TreesTagged.{tagged_text_is}
 
@@ -25,27 +25,8 @@ use Rattle.toml_print.proofs.TreesTagged.{tagged_text_is}
 pub scalar_behind : (f : Kinds) (v : ScalarValue) (old new : List ℕ) (text : List ℕ) → f [] ≡ Some (a_scalar v) → text ≡ plain_text (scalar v) → new ≡ old ++ text → PrintsBehind Plain f old new
 scalar_behind f v old new text here told written = (text, record { tree = scalar v; of_data = here; is = told }, written)
 
--- what is no scalar, as JSON
-pub json_behind : (f : Kinds) (k : Kind) (old new : List ℕ) → f [] ≡ Some k → ((v : ScalarValue) → k ≡ a_scalar v → ⊥) → Writes (scalar_text styles.Plain) f old new → PrintsBehind Plain f old new
-json_behind f k old new here other w = (text_with json_scalar w.tree, record { tree = w.tree; of_data = w.of_data; is = plain w.tree w.of_data }, w.is)
-  where
-    plain : (t : Tree) → IsTreeOf f t → text_with json_scalar t ≡ plain_text t
-    plain (scalar v) is = let e : Some k ≡ Some (a_scalar v) = sym here ∙ is in absurd (other v cc)
-    plain (array ts) is = refl
-    plain (table ms) is = refl
-
-pub json_printed : (f : Kinds) (old new : List ℕ) → Writes (scalar_text styles.Plain) f old new → PrintsBehind Json f old new
-json_printed f old new w = (text_with json_scalar w.tree, record { tree = w.tree; of_data = w.of_data; is = refl }, w.is)
-
 pub tagged_printed : (f : Kinds) (old new : List ℕ) → Writes (scalar_text styles.Tagged) f old new → PrintsBehind Tagged f old new
 tagged_printed f old new w = (text_with tagged_scalar w.tree, record { tree = w.tree; of_data = w.of_data; is = sym (tagged_text_is w.tree) }, w.is)
-
-pub type_printed : (f : Kinds) (k : Kind) (old new : List ℕ) → f [] ≡ Some k → new ≡ old ++ type_name k → PrintsBehind TypeName f old new
-type_printed f k old new here is = (type_name k, (k, here, refl), is)
-
--- behind nothing
-pub printed_all : (form : Form) (f : Kinds) (new : List ℕ) → PrintsBehind form f [] new → IsPrinted form f new
-printed_all form f new w = subst (IsPrinted form f) (sym w.2) w.1
 
 -- in closed data a step leads to what stands there
 standing_is : (kinds : Kinds) (at : Address) → IsClosed kinds → below_steps at kinds ≡ standing kinds at

@@ -1,11 +1,10 @@
 -- The code's values, items and pairs, in which a value is looked for.
-use Rattle.std.proofs.Common.{◌≡◌, ◌+◌, ◌<◌, ◌≤◌, ℕ, zero, suc, inr, Box, Global, List, [], ◌∷◌, map, drop, drop-cons, length, get_or, Option, Some, None, option_map, slice_get, Result, Bor, refl, sym, ap, ◌∙◌, subst, arith, rules}
+use Rattle.std.proofs.Common.{◌≡◌, ◌+◌, ◌<◌, ℕ, zero, suc, inr, Box, Global, List, [], ◌∷◌, map, drop, drop-cons, length, get_or, Option, Some, None, option_map, slice_get, Result, Bor, refl, sym, ap, ◌∙◌, subst, arith, rules}
 use Rattle.std.specs.Prelude.{IfOk, MatchOption}
 use Rattle.std.specs.List.{IsFirstAndRest}
 use Rattle.std.specs.Option.{option_copied}
 use Rattle.std.specs.Slice.{IsGetResult}
 use Rattle.std.specs.declared.alloc.AllocError.{AllocError}
-use Rattle.std.proofs.Math.ListN.{drop_of_length-le}
 use Rattle.std.proofs.lemmas.Option.{none-some, slice_get-get_or, slice_get-map, slice_get_past}
 use Rattle.std.proofs.lemmas.Result.{IfOk-weaker}
 use Rattle.toml_tree.specs.ReadingValues.{Element, Member}
@@ -85,9 +84,6 @@ next_pair pairs i p d low is =
     let one : suc i ≡ i + 1 = omega arith in
     let next : drop i pairs ≡ p ∷ drop (i + 1) pairs = drop-cons pairs i d low ∙ (λ k. sym is k ∷ drop (one k) pairs) in
     ap (map member) next
-
-pub no_next_pair : (pairs : List Pair) (i : ℕ) → length pairs ≤ i → map member (drop i pairs) ≡ []
-no_next_pair pairs i high = ap (map member) (drop_of_length-le pairs high)
 
 -- those from a place on are among all
 pub part_of_all : (at : Address) (pairs : List Pair) (i : ℕ) → ArePart at (map member pairs) (map member (drop i pairs))

@@ -3,7 +3,7 @@
 -- spells a text holds in either profile.
 use Rattle.std.specs.Prelude.{◌≡◌, ℕ, List, []}
 use Rattle.toml_tree.specs.Spells.{EachIs, Spells, SpellsValue}
-use Rattle.toml_tree.specs.Tree.{Gap, Value, Scalar, Array, Inline, Items, Close, Last, More, Pairs, ClosePairs, LastPair, MorePairs, KeyVal, Expr, BlankLine, KeyValLine, TableLine, ArrayTableLine, Line, Doc}
+use Rattle.toml_tree.specs.Tree.{Gap, Value, Scalar, Array, Inline, Items, Close, Last, More, Pairs, ClosePairs, LastPair, MorePairs, Expr, BlankLine, KeyValLine, TableLine, ArrayTableLine, Line, Doc}
 use Rattle.toml_tree.specs.declared.profile.Profile.{Profile}
 use Rattle.toml_tree.specs.declared.profile.Profile.TheVariants.{One, Two}
 
@@ -51,12 +51,9 @@ abbrev pub Asks : Profile → Type 0 → Type 0
 Asks One A = A
 Asks Two A = Unit {0}
 
--- a value, a pair, an expression, lines and a document of the profile
+-- a value, an expression, lines and a document of the profile
 abbrev pub IsValueOfProfile : Profile → Value → Type 0
 IsValueOfProfile profile v = Asks profile (HasPlainTables v)
-
-abbrev pub IsKeyValOfProfile : Profile → KeyVal → Type 0
-IsKeyValOfProfile profile k = Asks profile (HasPlainTables k.value)
 
 abbrev pub IsExprOfProfile : Profile → Expr → Type 0
 IsExprOfProfile profile e = Asks profile (ExprHasPlainTables e)

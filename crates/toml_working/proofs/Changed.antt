@@ -18,9 +18,8 @@ use Rattle.toml_layout.specs.declared.texts.Texts.{Texts}
 use Rattle.toml_layout.specs.declared.tree.OpenLine.{OpenLine}
 use Rattle.toml_working.specs.declared.working.Position.{Position}
 use Rattle.toml_layout.specs.declared.layout.Layout.{Layout}
-use Rattle.toml_layout.specs.ChangingIn.{ChangesIn}
 use Rattle.toml_layout.specs.SettingIn.{SetsIn}
-use Rattle.toml_layout.specs.Holding.{HolderChange, ChangesHolder, HoldsIn, PutsHeld, TakesHeld}
+use Rattle.toml_layout.specs.Holding.{HolderChange, ChangesHolder, PutsHeld, TakesHeld}
 use Rattle.toml_working.specs.Changing.{ChangesBody, ChangesOpen, RenamesOpen, SetsOpen, SetsThere, HoldsOpen, HoldsStanding, ChangesAs, ChangesStanding, ChangesLine, ChangesSlot, ChangesSlots}
 use Rattle.toml_working.specs.HeldLines.{expr_has_container}
 use Rattle.toml_working.specs.OpeningLines.{OpensBody, IsOpened}
@@ -201,18 +200,3 @@ module _ (ws : List ℕ) (a : AssignOutline) (tail : List ℕ) (comment : Option
     stands = λ apart at. let sets = held.stands apart at in (ap with_pair sets.0, sets.1);
     made = held.made;
   }
-
-  pair_holds_by : (makes : HolderChange) (steps : Address) (v w : ValueOutline) (done : Bool) → HoldsIn steps makes v w done
-      → HoldsOpen steps makes (with_pair v) (with_pair w) done
-  pair_holds_by makes steps v w done holds = record {
-    made = λ made. pair_held makes steps v w (holds.made made);
-    stays = λ not. ap with_pair (holds.stays not);
-    tells = holds.tells;
-  }
-
-  pub open_changed : (layout : Layout) (steps : Address) (change : Inside) (v w : ValueOutline) (done : Bool) → ChangesIn layout steps change v w done
-      → ChangesOpen layout steps change (with_pair v) (with_pair w) done
-  open_changed layout steps (changes.Set new) v w done sets = λ apart at. let made = sets apart at in (ap with_pair made.0, made.1)
-  open_changed layout steps (changes.Insert spelled new) v w done holds = pair_holds_by (PutsHeld layout spelled.now new) steps v w done holds
-  open_changed layout steps (changes.Rename to) v w done renames = λ apart at. ap with_pair (renames apart at)
-  open_changed layout steps changes.Remove v w done holds = pair_holds_by (TakesHeld layout) steps v w done holds

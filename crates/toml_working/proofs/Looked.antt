@@ -46,12 +46,6 @@ follow_lays layout read all at ws equals is begins s e =
 
 -- ---- the whitespace of a line behind another
 
--- behind a line with neither a key nor a header,
-pub after_bare : (front : List Standing) (base : Option ℕ) (own : Option Address) (l : LineOutline) → is_bare base own ≡ true → spacing_after front base own l ≡ plain_spacing
-after_bare front (Some n) own l is = cc
-after_bare front None None l is = refl
-after_bare front None (Some a) l is = cc
-
 -- one with a key and a value,
 pub after_pair : (front : List Standing) (base : Option ℕ) (own : Option Address) (l : LineOutline) → is_bare base own ≡ false → is_header base own ≡ false
     → spacing_after front base own l ≡ spaced_by l.ws (equals_in l.expr)

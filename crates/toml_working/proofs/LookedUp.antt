@@ -101,32 +101,6 @@ module _ (ws : List ℕ) (read : Read) (slots : List Slot) (all above : List Sta
           (ap (found_behind fits found s) is)
           ∙ up.so_far (bytes_eq s.outline.ws ws) found
 
-  -- a header whose section has no line with a key and a value,
-  pub past_empty : is_header s.base s.address ≡ true → last ≡ None → GoneUp ws read slots all above None
-  past_empty head none = record {
-    passed = s ∷ up.passed;
-    is = one_more;
-    line = None;
-    there = refl;
-    so_far = λ fits found.
-        header_alike head fits found ∙ ap (λ l. cond (bytes_eq s.outline.ws ws) (line_or l found) found) line_is
-        ∙ either_way (bytes_eq s.outline.ws ws) found ∙ sym (either_way fits found);
-  }
-    where
-      line_is : up.line ≡ None
-      line_is = subst (IsPlaceOfLine read slots up.line) none up.there
-
-  -- or that begins with other whitespace
-  pub past_other : is_header s.base s.address ≡ true → bytes_eq s.outline.ws ws ≡ false → GoneUp ws read slots all above None
-  past_other head other = record {
-    passed = s ∷ up.passed;
-    is = one_more;
-    line = None;
-    there = refl;
-    so_far = λ fits found.
-        header_alike head fits found ∙ ap (λ b. cond b (line_or up.line found) found) other ∙ sym (either_way fits found);
-  }
-
   -- the header of the section that is looked for
   pub found_up : is_header s.base s.address ≡ true → bytes_eq s.outline.ws ws ≡ true → (at : Position) → last ≡ Some at → IsLikeAt ws read slots all at
   found_up head same at is =

@@ -14,17 +14,16 @@ use Rattle.toml_text.specs.Source.{text_of}
 use Rattle.toml_units.specs.declared.unit.Unit.{Unit as ReadUnit}
 use Rattle.toml_layout.specs.Outlines.{ValueOutline}
 use Rattle.toml_layout.specs.declared.texts.Texts.{Texts}
-use Rattle.toml_working.specs.declared.lines.Seen.{Seen}
 use Rattle.toml_working.specs.declared.lines.Slot.{Slot}
 use Rattle.toml_working.specs.declared.lines.Sought.TheVariants as sought
 use Rattle.toml_working.specs.declared.working.Position.{Position}
 use Rattle.toml_working.specs.FirstKeys.{spacing_put}
 use Rattle.toml_working.specs.InsertStanding.{has_pair, line_put}
 use Rattle.toml_working.specs.Manners.{Manner}
-use Rattle.toml_working.specs.Placing.{FindsLast, lines_before, lines_from}
+use Rattle.toml_working.specs.Placing.{lines_before, lines_from}
 use Rattle.toml_working.specs.Putting.{PutsBehind}
-use Rattle.toml_working.specs.Sections.{EndsSection, FindsSectionEnd, InsertsBelow, IsBehindHeader, IsEndFrom, IsOfSectionAt, is_of_section, stands_in}
-use Rattle.toml_working.specs.Seeing.{AreHeaded, Found, IsSoughtAt, SeesAt, found, is_sought_line, line_at, read_by, seen}
+use Rattle.toml_working.specs.Sections.{EndsSection, FindsSectionEnd, InsertsBelow, IsBehindHeader, IsEndFrom, IsOfSectionAt, is_of_section}
+use Rattle.toml_working.specs.Seeing.{AreHeaded, IsSoughtAt, found, is_sought_line, line_at}
 use Rattle.toml_working.specs.Standing.{Standing, Read, AreOrdered, StandAlone, holds, slots_standing}
 use Rattle.toml_working.specs.Stands.{Stands}
 use Rattle.toml_working.proofs.Alone.{below_pairs, heads_is, sought_there}
@@ -33,28 +32,12 @@ use Rattle.toml_working.proofs.RemovedOne.{any_split}
 use Rattle.toml_working.proofs.AtPlace.{slot_of}
 use Rattle.toml_working.proofs.Placed.{behind_line, from_line, split_at}
 
--- what is seen of a line tells whether it stands in the section
-pub seen_in : (q : Address) (units : List ReadUnit) (slots : List Slot) (at : Position) (r : Option Seen) (x : Seen) → SeesAt units slots at r → r ≡ Some x
-    → stands_in q (seen x).base (seen x).address ≡ true → IsOfSectionAt q units slots at
-seen_in q units slots at r x sees is stands lines = by (line_at (read_by units lines) slots at) (sym (ap (option_map seen) is) ∙ sees lines)
-  where
-    by : (o : Option Standing) → Some (seen x) ≡ option_map found o → IfSome o (λ (s : Standing). is_of_section q s ≡ true)
-    by None e = tt
-    by (Some s) e =
-        let same : seen x ≡ found s = same_Some (seen x) (found s) e in
-        subst (λ (f : Found). stands_in q f.base f.address ≡ true) same stands
-
 -- the guess, or what is found from the place on
 pub end_of_guess : (q : Address) (units : List ReadUnit) (slots : List Slot) (start from : Position) (at : Position) → IsEndFrom units slots start at
     → IsOfSectionAt q units slots at → FindsSectionEnd q units slots from (Some at)
 end_of_guess q units slots start from at ends there lines =
     let last = ends lines in
     record { start = start; last = last; there = inr (subst (λ o. IfSome o (λ (s : Standing). is_of_section q s ≡ true)) last.there (there lines)) }
-
-pub end_of_last : (q : Address) (units : List ReadUnit) (slots : List Slot) (from : Position) (r : Option Position) → FindsLast units slots from r
-    → FindsSectionEnd q units slots from r
-end_of_last q units slots from None finds lines = finds lines
-end_of_last q units slots from (Some at) finds lines = record { start = from; last = finds lines; there = inl (refl, refl) }
 
 -- ---- the line is put in
 

@@ -7,10 +7,6 @@ use Rattle.toml_delivery.specs.Outcomes.{texts_of}
 use Rattle.tomled.specs.Reads.{GaveAll, IsOfWord, Read, StoppedAt, all_good}
 use Rattle.tomled.specs.declared.reading.FileFault.{FileFault}
 
--- of nothing
-pub gave_none : (sources : List Source) → GaveAll (take 0 sources) [] []
-gave_none sources = record { order = refl; gave = refl }
-
 module _ (sources : List Source) (i : ℕ) (low : i < length sources) (d : Source) where
   front_is : take (i + 1) sources ≡ take i sources ++ get_or sources i d ∷ []
   front_is = take_more sources i d low

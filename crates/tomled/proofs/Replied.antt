@@ -1,5 +1,5 @@
 -- What a request comes to, by what was read.
-use Rattle.std.proofs.Common.{◌≡◌, ◌⊎◌, ℕ, Bool, List, [], Option, Vec, Result, Ok, Err, Bor, length, map, inl, inr, refl, sym, ap, ◌∙◌, subst}
+use Rattle.std.proofs.Common.{◌≡◌, ◌⊎◌, ℕ, List, [], Option, Vec, Result, Ok, Err, Bor, length, map, inl, inr, refl, sym, ap, ◌∙◌, subst}
 use Rattle.std.proofs.lemmas.List.{length-map}
 use Rattle.std.specs.declared.alloc.Global.{Global}
 use Rattle.toml_tree.specs.declared.profile.Profile.{Profile}
@@ -11,7 +11,6 @@ use Rattle.toml_commands.specs.Explaining.{IsExplained, explains}
 use Rattle.toml_commands.specs.declared.answering.Source.{Source}
 use Rattle.toml_delivery.specs.Outcomes.{texts_of}
 use Rattle.toml_delivery.specs.declared.fault.RunFault.{RunFault}
-use Rattle.toml_delivery.specs.declared.fault.RunFault.TheVariants.{Memory}
 use Rattle.toml_delivery.specs.declared.outcome.Outcome.{Outcome}
 use Rattle.tomled.specs.Asking.{Asked}
 use Rattle.tomled.specs.Reads.{AreRead, GaveAll, Read}
@@ -70,11 +69,6 @@ module _ (request : Request) (sources : List Source) (order : map sought sources
   pub one_unread : (fault : FileFault) (reply : Reply) → IsOutcomeOf (explains (asked_by request)) fault (Ok reply.outcome) → (a b : Option (List Read)) → Asked a b (AreRead sources (Err fault))
       → Asked a b (IsReplyFrom request (Ok reply))
   one_unread fault reply told a b asked = so (AreRead sources (Err fault)) (IsReplyFrom request (Ok reply)) a b asked (λ reads h. unread fault (Ok reply.outcome) told reads h reply refl)
-
--- a fault of a file is told, or there was no memory
-pub outcome_fault : (explained : Bool) (fault : FileFault) (f : RunFault) → IsOutcomeOf explained fault (Err f) → f ≡ Memory
-outcome_fault explained (Failed word error) f h = h
-outcome_fault explained NoMemory f h = h
 
 -- but for `validate` this is all
 abbrev pub IsNoValidate : Request → Type 0

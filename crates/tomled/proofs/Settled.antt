@@ -1,5 +1,5 @@
 -- What a disk is asked before an outcome is printed, one thing behind the other.
-use Rattle.std.proofs.Common.{◌≡◌, ◌≢◌, ◌⊎◌, ℕ, Bool, true, false, List, [], ◌∷◌, ◌++◌, Option, Some, None, Vec, Result, Ok, Err, inl, inr, refl, sym, ap, ◌∙◌, subst, append_assoc, append-nil}
+use Rattle.std.proofs.Common.{◌≡◌, ◌⊎◌, ℕ, Bool, true, false, List, [], ◌∷◌, ◌++◌, Option, Some, None, Vec, Result, Ok, Err, inl, inr, refl, sym, ap, ◌∙◌, subst, append_assoc, append-nil}
 use Rattle.std.specs.Prelude.{if◌then◌else◌}
 use Rattle.std.specs.declared.alloc.Global.{Global}
 use Rattle.std.specs.declared.io.Error.{Error}
@@ -148,9 +148,6 @@ module _ (file : List ℕ) (list : Option Path) (d : Destination) (inputs : List
 module _ (before edits after : List ℕ) (given : Option Path) (path : Path) (is : given ≡ Some path) (old : Outcome) where
   at_path : (r : Result Outcome RunFault) (xs : Calls) → IsCertifySettled before edits after (Some path) old r xs → IsCertifySettled before edits after given old r xs
   at_path r xs h = subst (λ p. IsCertifySettled before edits after p old r xs) (sym is) h
-
-  pub left_alone : old.status ≢ 0 → (a : Option Calls) → Made a a (IsCertifySettled before edits after given old (Ok old))
-  left_alone bad a = nothing_asked (IsCertifySettled before edits after given old (Ok old)) a (at_path (Ok old) [] (inl (bad, refl, refl)))
 
   pub not_certified : old.status ≡ 0 → (e : Error) (r : Result Outcome RunFault) → IsFileFault true path.now r → (a b : Option Calls)
       → Made a b (IsCompared (judged_compared path.now before edits after) (Err e)) → Made a b (IsCertifySettled before edits after given old r)

@@ -2,17 +2,16 @@
 use Rattle.std.proofs.Common.{◌≡◌, ◌<◌, ◌≤◌, ◌+◌, ℕ, true, List, [], ◌∷◌, ◌++◌, map, length, take, get_or, Result, Ok, Err, Bor, inl, inr, refl, sym, ap, ◌∙◌, subst, arith}
 use Rattle.std.specs.Prelude.{max}
 use Rattle.std.specs.List.{AllByRecursion}
-use Rattle.std.proofs.lemmas.List.{map-append, take_all, take_more, take-map, flat_map_more}
+use Rattle.std.proofs.lemmas.List.{map-append, take_more, take-map, flat_map_more}
 use Rattle.toml_tree.specs.declared.profile.Profile.{Profile}
 use Rattle.toml_commands.specs.Answering.{document_at, sought}
 use Rattle.toml_commands.specs.Explaining.{IsExplainedText, IsValidated}
 use Rattle.toml_commands.specs.declared.answering.Source.{Source}
-use Rattle.toml_delivery.specs.Outcomes.{Fails}
 use Rattle.toml_delivery.specs.declared.fault.RunFault.{RunFault}
 use Rattle.toml_delivery.specs.declared.outcome.Outcome.{Outcome}
 use Rattle.tomled.specs.Finishing.{TellsFault}
 use Rattle.tomled.specs.Reads.{IsOfWord, Read}
-use Rattle.tomled.specs.Validating.{IsOneTold, IsOutcomeOf, IsValidation, IsOfDocument, IsOfNone, IsStatusOf, IsUnread, SomeRead, TellEach, TellsGiven, TellsRead, WasRead, all_told, words_of}
+use Rattle.tomled.specs.Validating.{IsOneTold, IsOutcomeOf, IsOfDocument, IsOfNone, IsStatusOf, IsUnread, SomeRead, TellEach, TellsGiven, TellsRead, WasRead, all_told, words_of}
 use Rattle.tomled.specs.declared.reading.FileFault.{FileFault}
 use Rattle.tomled.specs.declared.reading.FileFault.TheVariants.{Failed, NoMemory}
 
@@ -158,17 +157,3 @@ pub more_told : (profile : Profile) (files : List (Bor (List ℕ))) (i : ℕ) (d
 more_told profile files i d status text o low xs ys before one =
     subst (λ l. SoFar profile (take (i + 1) (words_of files)) (max o.status status) (text ++ o.err.items) (xs ++ l)) (sym one.1)
     (one_more_told profile files i d status text xs one.0 o low before one.2 one.3)
-
--- all were read
-pub all_validated : (profile : Profile) (files : List (List ℕ)) (n : ℕ) → length files ≤ n → (status : ℕ) (text : List ℕ) (o : Outcome) → Fails status text o → (xs : List Read)
-    → SoFar profile (take n files) status text xs → IsValidation profile files (Ok o) xs
-all_validated profile files n past status text o fails xs so = record {
-  order = so.order ∙ take_all n files past;
-  told = so.told;
-  each = so.each;
-  status = subst (IsStatusOf profile xs) (sym fails.is) so.is_status;
-  err = fails.err ∙ so.err;
-  out = fails.out;
-  refusal = fails.refusal;
-  files_none = fails.files;
-}
