@@ -1,9 +1,9 @@
 -- A list whose end is kept the other way round.
 use Rattle.std.proofs.Common.{◌≡◌, ◌∙◌, ℕ, zero, suc, Some, ◌+◌, ◌-◌, ◌<◌, ◌≤◌, List, [], ◌∷◌, ◌++◌, length, take, drop, reverse, get_or, insert, remove, set, refl, sym, ap, ap₂, append_assoc, append-nil, arith}
-use Rattle.std.proofs.lemmas.List.{drop_at, get_or-append_right, get_or-reverse, get_or_append_left, length-append, length-drop, length-reverse, reverse-append, set-append_left, set-append_right, set_split, take-append-drop, take_at}
+use Rattle.std.proofs.lemmas.List.{drop_at, get_or-append_right, get_or-reverse, length-append, length-drop, length-reverse, reverse-append, set-append_left, set-append_right, set_split, take-append-drop, take_at}
 use Rattle.std.proofs.lemmas.Option.{same_Some, slice_get_read}
 use Rattle.std.specs.Prelude.{slice_get}
-use Rattle.std.proofs.lemmas.List.Edits.{insert-append_left, insert-append_right, remove-append_left, remove-append_right}
+use Rattle.std.proofs.lemmas.List.Edits.{insert-append_right, remove-append_right}
 
 module _ {X : Type 0} where
   -- ---- a list the other way round, parted
@@ -46,25 +46,16 @@ module _ {X : Type 0} where
       ∙ sym (append_assoc xs (x ∷ []) (reverse b))
       ∙ ap (λ (l : List X). l ++ reverse b) (sym is)
 
-  pub near_item : (xs b : List X) (i : ℕ) (x : X) → i < length xs → x ≡ get_or xs i x → x ≡ get_or (xs ++ reverse b) i x
-  near_item xs b i x low is = is ∙ sym (get_or_append_left xs (reverse b) x i low)
-
   pub far_item : (xs b : List X) (n m i p : ℕ) (x : X) → length xs ≡ n → length b ≡ m → n ≤ i → i - n < m → p ≡ m - 1 - (i - n) → x ≡ get_or b p x → x ≡ get_or (xs ++ reverse b) i x
   far_item xs b n m i p x len size past low place is =
       let within : i - n < length b = omega (arith, size, low) in
       let same : p ≡ length b - 1 - (i - n) = omega (arith, size, place) in
       is ∙ ap (λ q. get_or b q x) same ∙ sym (get_or-reverse b (i - n) x within) ∙ sym (get_or-append_right xs (reverse b) n i x len past)
 
-  pub near_put : (xs b : List X) (i : ℕ) (x : X) → i ≤ length xs → insert xs i x ++ reverse b ≡ insert (xs ++ reverse b) i x
-  near_put xs b i x low = sym (insert-append_left xs (reverse b) i x low)
-
   pub far_put : (xs b : List X) (n m i p : ℕ) (x : X) → length xs ≡ n → length b ≡ m → n ≤ i → i - n ≤ m → p ≡ m - (i - n) → xs ++ reverse (insert b p x) ≡ insert (xs ++ reverse b) i x
   far_put xs b n m i p x len size past low place =
       let same : i - n ≡ length b - p = omega (arith, size, low, place) in
       ap (λ (r : List X). xs ++ r) (reverse_insert b p (i - n) x same) ∙ sym (insert-append_right xs (reverse b) n i x len past)
-
-  pub near_taken : (xs b : List X) (i : ℕ) → i < length xs → remove xs i ++ reverse b ≡ remove (xs ++ reverse b) i
-  near_taken xs b i low = sym (remove-append_left xs (reverse b) i low)
 
   pub far_taken : (xs b : List X) (n m i p : ℕ) → length xs ≡ n → length b ≡ m → n ≤ i → i - n < m → p ≡ m - 1 - (i - n) → xs ++ reverse (remove b p) ≡ remove (xs ++ reverse b) i
   far_taken xs b n m i p len size past low place =

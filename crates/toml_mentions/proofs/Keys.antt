@@ -1,5 +1,5 @@
 -- The parts of keys, one behind the other.
-use Rattle.std.proofs.Common.{◌≡◌, ◌<◌, ◌≤◌, ◌+◌, ℕ, zero, suc, List, [], ◌∷◌, ◌++◌, map, length, drop, get_or, Option, Some, None, refl, sym, ap, ◌∙◌, subst, arith, append_assoc}
+use Rattle.std.proofs.Common.{◌≡◌, ◌<◌, ◌≤◌, ◌+◌, ℕ, zero, suc, List, [], ◌∷◌, ◌++◌, map, length, drop, get_or, Option, Some, refl, sym, ap, ◌∙◌, subst, arith, append_assoc}
 use Rattle.std.proofs.lemmas.List.{drop_all, drop_more, length-map, map-append}
 use Rattle.toml_tree.specs.Tree.{Piece, Dotted, Key}
 use Rattle.toml_tree.specs.View.{dotted as made_dotted}
@@ -90,9 +90,6 @@ pub record Keying (old new : Seeker) (from : Address) (k : Key) (i : ℕ) (way :
   pub parts : key_parts from k.first k.rest ≡ done ++ key_parts at p (drop i k.rest)
   pub end : key_end from k.first k.rest ≡ key_end at p (drop i k.rest)
   pub sees : Sees old new (sights old.target.now done)
-
-pub keying_none : (s : Seeker) (from : Address) (k : Key) (way : Option ℕ) → way ≡ way_to s.target.now from → Keying s s from k 0 way k.first
-keying_none s from k way h = record { at = from; done = []; is = h; parts = refl; end = refl; sees = sees_none s }
 
 module _ (old mid new : Seeker) (from : Address) (k : Key) (i : ℕ) (way : Option ℕ) (p : Piece) (so : Keying old mid from k i way p) where
   pub keying_more : i < length k.rest → (d : Dotted) → d ≡ get_or k.rest i d → (to : Option ℕ) → to ≡ way_to mid.target.now (child so.at (part_name p))

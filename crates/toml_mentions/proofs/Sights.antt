@@ -1,7 +1,6 @@
 -- What is seen of a target, and what is kept of it.
-use Rattle.std.proofs.Common.{◌≡◌, ◌⊎◌, inl, inr, ◌<◌, ◌+◌, ℕ, zero, suc, Bool, true, false, List, [], ◌∷◌, ◌++◌, map, length, get_or, Option, Some, None, refl, sym, ap, ◌∙◌, subst, arith, append_assoc, append-nil}
+use Rattle.std.proofs.Common.{◌≡◌, inl, inr, ◌<◌, ◌+◌, ℕ, zero, suc, Bool, true, false, List, [], ◌∷◌, ◌++◌, map, length, get_or, Option, Some, None, refl, sym, ap, ◌∙◌, subst, arith, append_assoc, append-nil}
 use Rattle.std.specs.Prelude.{if◌then◌else◌}
-use Rattle.std.proofs.lemmas.List.{map-append}
 use Rattle.std.proofs.lemmas.Option.{none-some}
 use Rattle.toml_text.specs.declared.span.Span.{Span}
 use Rattle.toml_names.specs.declared.mentions.mention.Role.{Role}
@@ -128,12 +127,6 @@ first_there (q ∷ ss) s has = refl
 
 pub keeps_there : (ss : List Sight) (s : Sight) → HasRole s.role ss → Keeps ss ss s
 keeps_there ss s has = record { forbid = λ r. there_by r ss s (forbidding r ss) has refl; first = first_there ss s has }
-
-pub keeps_added : (ms : List Mention) (m : Mention) → Keeps (map seen_of (ms ++ m ∷ [])) (map seen_of ms) (seen_of m)
-keeps_added ms m = record {
-  forbid = λ r. ap (forbidding r) (map-append seen_of ms (m ∷ []));
-  first = ap first_sight (map-append seen_of ms (m ∷ []));
-}
 
 -- a mention in the list is in its role
 pub has_role_at : (r : Role) (ms : List Mention) (i : ℕ) (d : Mention) → i < length ms → (seen_of (get_or ms i d)).role ≡ r → HasRole r (map seen_of ms)

@@ -1,21 +1,21 @@
 -- The place in the text behind a line more: the table of the last header, and the counts of the arrays of tables.
-use Rattle.std.proofs.Common.{◌≡◌, ◌≢◌, eq-eqb, ne_eqb, ◌⊎◌, inl, inr, ◌<◌, ◌≤◌, ◌+◌, ◌-◌, ℕ, zero, suc, Bool, true, false, List, [], ◌∷◌, ◌++◌, map, length, take, get_or, Option, Some, None, Result, Ok, Err, refl, sym, ap, ◌∙◌, subst, arith, append-nil, append_assoc}
+use Rattle.std.proofs.Common.{◌≡◌, ◌≢◌, eq-eqb, ne_eqb, ◌⊎◌, inl, inr, ◌<◌, ◌≤◌, ◌+◌, ◌-◌, ℕ, zero, suc, Bool, true, false, List, [], ◌∷◌, ◌++◌, length, take, Option, Some, None, Result, Ok, Err, refl, sym, ap, ◌∙◌, subst, arith, append-nil, append_assoc}
 use Rattle.std.specs.declared.alloc.AllocError.{AllocError}
-use Rattle.std.specs.Prelude.{OnOk, cond, count_by, if◌then◌else◌, slice_index, slice_set, sum_by, ◌&&◌, ◌==◌}
+use Rattle.std.specs.Prelude.{OnOk, cond, if◌then◌else◌, slice_index, slice_set, ◌&&◌, ◌==◌}
 use Rattle.std.proofs.lemmas.List.{get_or-set_same, get_or-set_other, length-set}
 use Rattle.std.proofs.lemmas.Option.{none-some}
-use Rattle.toml_tree.specs.Tree.{Piece, Blank, Assign, Value, KeyVal, Key, Expr, BlankLine, KeyValLine, TableLine, ArrayTableLine}
+use Rattle.toml_tree.specs.Tree.{Piece, Blank, KeyVal, Key, BlankLine, KeyValLine}
 use Rattle.toml_tree.specs.Tree as tree
 use Rattle.toml_names.specs.declared.mentions.mention.Role.TheVariants.{Passed, Header, Tables, Element}
-use Rattle.toml_names.specs.declared.model.address.Step.TheVariants.{Name, Index}
+use Rattle.toml_names.specs.declared.model.address.Step.TheVariants.{Index}
 use Rattle.toml_names.specs.model.Addresses.{Address, same_address, child, element}
 use Rattle.toml_names.specs.mentions.Keys.{key_names, part_name}
-use Rattle.toml_names.specs.mentions.Mentions.{Named, an_array, count_tables, ends_table, ends_tables, entered, followed, is_tables_at, named_by, pair_named, section, section_from, table_at}
+use Rattle.toml_names.specs.mentions.Mentions.{Named, an_array, count_tables, ends_table, ends_tables, entered, followed, is_tables_at, pair_named, section, table_at}
 use Rattle.toml_names.proofs.Proved.{count-append, pairs_leave_alike, section_from-append}
-use Rattle.toml_mentions.specs.Sought.{Counts, IsFrontOf, IsSeen, Part, Sees, Sight, Stands, Takes, TakesElement, TakesExpr, count_at, followed_parts, most_lines, pair_parts, part_at, parts_by, passes, set_at, sights, table_parts, tables_parts, way_to}
+use Rattle.toml_mentions.specs.Sought.{Counts, IsFrontOf, IsSeen, Part, Sees, Sight, Stands, Takes, TakesElement, TakesExpr, count_at, followed_parts, most_lines, pair_parts, part_at, passes, set_at, sights, table_parts, tables_parts, way_to}
 use Rattle.toml_mentions.specs.declared.seeker.Seeker.{Seeker}
 use Rattle.toml_mentions.proofs.Sights.{sees_then, sights-append}
-use Rattle.toml_mentions.proofs.Ways.{off, step_end, take_apart, take_here, way_is_take, way_low}
+use Rattle.toml_mentions.proofs.Ways.{off, take_apart, take_here, way_is_take, way_low}
 
 and_false : (b : Bool) → (b && false) ≡ false
 and_false true = refl
@@ -40,10 +40,6 @@ count_passes line (q ∷ done) x =
     let c : one_or_none (is_tables_at x (table_at line Passed q.address)) ≡ 0 = ap one_or_none (and_false (same_address q.address x)) in
     let d = count_passes line done x in
     omega (arith, a, b, c, d)
-
-section_passes : (line : ℕ) (done : List Part) (at : Address) → section_from at (passes line done) ≡ at
-section_passes line [] at = refl
-section_passes line (q ∷ done) at = section_passes line done at
 
 -- the end of a header
 count_table : (line : ℕ) (q x : Address) → count_tables (ends_table line q) x ≡ 0
@@ -70,13 +66,6 @@ same_counts counts t earlier more none h = record {
       let c = none (take d t) in
       omega (arith, a, b, c);
 }
-
-few_more : (earlier more : List Named) (n m : ℕ) → ((x : Address) → count_tables more x ≤ m) → ((x : Address) → count_tables earlier x ≤ n) → (x : Address) → count_tables (earlier ++ more) x ≤ n + m
-few_more earlier more n m some few x =
-    let a = some x in
-    let b = few x in
-    let c = count-append earlier more x in
-    omega (arith, a, b, c)
 
 -- what a step further on a header's way is
 pub entered_way : (t : Address) (counts : List ℕ) (earlier : List Named) (at : Address) (d : ℕ) → Some d ≡ way_to t at → Counts counts t earlier → count_at counts (Some d) ≡ count_tables earlier at

@@ -1,5 +1,5 @@
 -- The lines of a text, taken in one after the other.
-use Rattle.std.proofs.Common.{◌≡◌, ◌⊎◌, inl, inr, ◌<◌, ◌≤◌, ◌+◌, ℕ, List, [], ◌∷◌, ◌++◌, length, Option, Some, None, refl, sym, ap, ◌∙◌, subst, arith}
+use Rattle.std.proofs.Common.{◌≡◌, ◌⊎◌, inl, inr, ◌<◌, ◌+◌, ℕ, List, [], ◌∷◌, ◌++◌, length, Option, Some, None, sym, ap, ◌∙◌, subst, arith}
 use Rattle.std.proofs.lemmas.List.{length_push}
 use Rattle.std.proofs.lemmas.Option.{none-some}
 use Rattle.toml_text.specs.Limit.{IsText}
@@ -18,11 +18,6 @@ use Rattle.toml_mentions.proofs.Parted.{named_more, parts_more}
 use Rattle.toml_mentions.proofs.Sights.{sights-append}
 
 module _ (target : Address) (profile : Profile) (text : List ℕ) where
-  -- no line yet
-  pub none_sought : (s : Seeker) (reader : LineReader) → s.target.now ≡ target → Stands s (root ∷ []) 0 → IsSeen s.firsts.items s.clash [] → HandsOut profile text [] reader
-      → AreSought target profile text [] (Some reader) s
-  none_sought s reader is stands seen hands = record { are = hands; target_is = is; stands = stands; seen = seen }
-
   -- one more
   pub sought_more : (front : List Line) (l : Line) (reader : LineReader) (more : Option LineReader) (old new : Seeker) → AreSought target profile text front (Some reader) old
       → AreLeft profile text (front ++ l ∷ []) more → TakesExpr old new l.expr → length front < most_lines → AreSought target profile text (front ++ l ∷ []) more new

@@ -1,5 +1,5 @@
 -- The walk of a place, front by front.
-use Rattle.std.proofs.Common.{◌≡◌, ℕ, suc, ◌+◌, ◌<◌, ◌≤◌, Bool, false, List, [], ◌∷◌, ◌++◌, length, map, Option, Some, None, sym, refl, ap, ◌∙◌, subst, arith, append_assoc, drop, drop-cons, get_or, length-drop, take, ◌-◌}
+use Rattle.std.proofs.Common.{◌≡◌, ℕ, suc, ◌+◌, ◌<◌, ◌≤◌, Bool, false, List, [], ◌∷◌, ◌++◌, length, map, Option, Some, sym, refl, ap, ◌∙◌, subst, arith, append_assoc, drop, drop-cons, get_or, length-drop, take, ◌-◌}
 use Rattle.std.proofs.lemmas.List.{take_all}
 use Rattle.std.proofs.Math.ListN.{drop_of_length-le}
 use Rattle.std.specs.Prelude.{IfSome, is_some, slice_get}
@@ -15,7 +15,7 @@ use Rattle.toml_places.specs.Leading.{below_step}
 use Rattle.toml_places.specs.Parts.{Stands, kinds_in}
 use Rattle.toml_edits.specs.Edits.{Change, change}
 use Rattle.toml_edits.specs.declared.edit.Edit.{Edit}
-use Rattle.toml_one.specs.Parents.{Front, IsNewStepOf, Makes, MakesAt, further, nowhere, root, stands_in_value}
+use Rattle.toml_one.specs.Parents.{Front, IsNewStepOf, Makes, MakesAt, further, root, stands_in_value}
 use Rattle.toml_one.specs.Walking.{IsPassed, IsReached}
 use Rattle.toml_one.specs.declared.parents.Reached.{Reached}
 use Rattle.toml_one.proofs.Standing.{made_is, new_step_is, next_stands, part_there}
@@ -36,9 +36,6 @@ module _ (parts : List Spot) (ms : List Named) (front : Reached) (here : Front) 
             ∙ ap (λ b. stands_in_value ms (here.at ++ t ∷ []) b front.here.in_value) (part_there parts part (below_step t here.kinds) stands)
             ∙ ap (λ b. stands_in_value ms (here.at ++ t ∷ []) (is_some (below_step t here.kinds [])) b) reached.in_value;
       }
-
-  pub reached_nowhere : (at : Address) → at ≡ nowhere → IsReached parts (record { at = at; here = record { part = None; in_value = front.here.in_value } }) (further ms here None)
-  reached_nowhere at is = record { at = is; stands = refl; in_value = reached.in_value }
 
   pub passed : (s : PlaceStep) (left : List PlaceStep) (old new : List Edit) (to : Reached) (found : Option Step) (next : Option PlaceStep) (cs : List Change)
       → IsNewStepOf (kinds_in parts front.here.part) s found → IsReached parts to (further ms here found)

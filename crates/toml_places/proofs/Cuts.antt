@@ -1,5 +1,5 @@
 -- Where a place may be cut: at its front, behind one ASCII byte, behind a numeral.
-use Rattle.std.proofs.Common.{◌≡◌, ℕ, zero, suc, ◌+◌, ◌<◌, ◌≤◌, Bool, true, false, cond, eqb, List, [], ◌∷◌, length, drop, get_or, IsUtf8, IsCharBoundary, refl, ap, arith, length-drop}
+use Rattle.std.proofs.Common.{◌≡◌, ℕ, zero, suc, ◌+◌, ◌<◌, Bool, true, false, cond, eqb, List, [], ◌∷◌, length, drop, get_or, IsUtf8, IsCharBoundary, refl, ap, arith}
 use Rattle.std.proofs.lemmas.Bool.{eqb-true}
 use Rattle.std.proofs.lemmas.Bool.Decides.{nat_tests}
 use Rattle.std.proofs.lemmas.Str.{IsCharBoundary-start, IsCharBoundary-from_rest, IsUtf8-drop, IsUtf8-from_is_utf8}
@@ -51,6 +51,3 @@ module _ (text : List ℕ) (at : ℕ) (is_text : IsText text) (bound : IsCharBou
   behind_numeral n is =
       IsCharBoundary-from_rest text at n bound.0
       (after_IsAscii (drop at text) n utf8 (omega (arith, is, numeral_within (drop at text))) (λ some. numeral_ascii (drop at text) _ (omega (arith, is))))
-
-  pub numeral_end : (n : ℕ) → n ≡ numeral_len (drop at text) → at + n ≤ length text
-  numeral_end n is = omega (arith, is, numeral_within (drop at text), length-drop at text, bound.0)

@@ -9,7 +9,7 @@ use Rattle.std.specs.Str.{bytes_eq}
 use Rattle.std.proofs.lemmas.Bool.{false≢true, cond-true}
 use Rattle.std.proofs.lemmas.List.{append-nil}
 use Rattle.std.proofs.lemmas.Map.Views.{Contains-from_lookup, IsSome-lookup_from_Contains}
-use Rattle.std.proofs.lemmas.Option.{none-some, slice_get-get_or, slice_get_within, slice_get_past, get_or_from_slice_get}
+use Rattle.std.proofs.lemmas.Option.{slice_get-get_or, slice_get_within, slice_get_past, get_or_from_slice_get}
 use Rattle.std.proofs.lemmas.Slice.Eq.{bytes_eq-Decides}
 use Rattle.toml_names.specs.declared.model.address.Step.{Step}
 use Rattle.toml_names.specs.declared.model.address.Step.TheVariants as steps
@@ -23,7 +23,7 @@ use Rattle.toml_names.proofs.Proved.{same_address-decides}
 use Rattle.toml_places.specs.declared.place.PlaceStep.{PlaceStep}
 use Rattle.toml_places.specs.declared.place.PlaceStep.TheVariants.{FromEnd, Behind}
 use Rattle.toml_places.specs.Leading.{IsArrayOf, below_step}
-use Rattle.toml_places.specs.Parts.{IsLengthOf, IsStepOf, Stands, kinds_in}
+use Rattle.toml_places.specs.Parts.{IsLengthOf, IsStepOf, Stands}
 use Rattle.toml_places.proofs.Addresses.{one_length}
 
 -- Something stands at each part: its address is among those of the parts.
@@ -124,9 +124,6 @@ module _ (parts : List Spot) (id : ℕ) (items : List ℕ) (are : AreItems parts
 
 pub no_array : (kinds : Kinds) (o : Option Kind) → kinds [] ≡ o → ¬ (o ≡ Some an_array) → (len : ℕ) → ¬ IsArrayOf kinds len
 no_array kinds o is other len array = other (sym is ∙ array.array)
-
-pub no_array_in : (parts : List Spot) (o : Option ℕ) → o ≡ None → (len : ℕ) → ¬ IsArrayOf (kinds_in parts o) len
-no_array_in parts o is len array = absurd (none-some an_array (sym (ap (λ p. kinds_in parts p []) is) ∙ array.array))
 
 -- a step of a place in an array of so many elements
 pub from_end_is : (kinds : Kinds) (len n : ℕ) → IsArrayOf kinds len → (o : Option ℕ) → SomeIff o ((0 < n) × (n ≤ len)) (len - n) → IsStepOf kinds (FromEnd n) (option_map steps.Index o)

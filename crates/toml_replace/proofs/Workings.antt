@@ -8,7 +8,7 @@ use Rattle.toml_replace.specs.Calls.{Call, writes, syncs, sets_mode, compares, s
 use Rattle.toml_replace.specs.Replacement.{filled, certified, IsApart, IsCutShort, IsRefusal, IsWork, FailsFile}
 use Rattle.toml_replace.specs.Steps.{IsFilling, IsComparing, IsCertifying, IsFinishing, Causes}
 use Rattle.toml_replace.proofs.Cuts.{cut_before, cut_behind, refusal}
-use Rattle.toml_replace.proofs.Joined.{none_added, joined, all_joined, some_behind}
+use Rattle.toml_replace.proofs.Joined.{joined, all_joined, some_behind}
 
 write_cut : (text : List ℕ) (mode : ℕ) (e : Error) → IsCutShort (filled text mode) (writes text (Err e) ∷ [])
 write_cut text mode e = record {
@@ -84,10 +84,6 @@ is_other path other same e a b it_is compared = record {
   which =
       (Ok same, refl, inr (ap (λ x. Ok x) it_is));
 }
-
--- no certificate
-pub no_certificate : (file new : List ℕ) (a : Option (List Call)) → Made a a (IsCertifying file new None (Ok tt))
-no_certificate file new a = record { calls = []; added = none_added a; which = (refl, tt) }
 
 -- the first comparison, the second, or the writing fails
 first_cut : (file new : List ℕ) (k : List ℕ × List ℕ) (same : Result Bool Error) → IsRefusal same

@@ -1,6 +1,6 @@
 -- No run is both an integer and a float, or a boolean and either; a number is no date or time; and how a number begins.
-use Rattle.std.proofs.Common.{◌≡◌, ℕ, zero, suc, Bool, true, false, ◌||◌, eqb, List, [], ◌∷◌, ◌++◌, take, drop, refl, ap, subst, ◌∙◌, arith, add-one, inl, inr, ⊎_elim, ◌⊎◌}
-use Rattle.std.proofs.lemmas.Bool.{false≢true, both_ways, and_parts, and_left, and_right, or_cases, or_left, or_from, cond-true, cond-false, false_from_ne_true}
+use Rattle.std.proofs.Common.{◌≡◌, ℕ, Bool, true, false, ◌||◌, eqb, List, [], ◌∷◌, ◌++◌, take, drop, refl, ap, subst, ◌∙◌, arith, add-one, inl, inr, ⊎_elim, ◌⊎◌}
+use Rattle.std.proofs.lemmas.Bool.{false≢true, both_ways, and_left, and_right, or_cases, or_from, cond-true, cond-false, false_from_ne_true}
 use Rattle.std.proofs.lemmas.Bool.Decides.{nat_tests}
 use Rattle.std.proofs.lemmas.List.{append-nil}
 use Rattle.toml_text.specs.Bytes.{is_digit}
@@ -8,11 +8,10 @@ use Rattle.toml_text.specs.Forms.{Each}
 use Rattle.toml_text.specs.Runs.{begins}
 use Rattle.toml_scalar.specs.Integers.{IsBasedBy, IsBased}
 use Rattle.toml_scalar.specs.IntegerRuns.{is_sign, signed, is_digit_of, digits_after, is_unsigned, is_decimal, is_based_by, is_integer_form}
-use Rattle.toml_scalar.specs.Floats.{IsNamedFloat}
 use Rattle.toml_scalar.specs.FloatRuns.{is_named_float, is_whole_byte, whole_len, is_float_tail, is_number_float, is_float}
 use Rattle.toml_scalar.specs.Booleans.{is_bool}
 use Rattle.toml_scalar.proofs.Digits.{either, decimal_class}
-use Rattle.toml_scalar.proofs.Integers.{digit_no_sign, decimals_first, unsigned_sound, unsigned_digits, decimal_sound, based_sound}
+use Rattle.toml_scalar.proofs.Integers.{digit_no_sign, decimal_sound, based_sound}
 use Rattle.toml_scalar.proofs.Floats.{digit_is_whole, decimal_whole, rest_found, named_sound, named_either}
 use Rattle.toml_scalar.proofs.Booleans.{bool_sound, bool_either}
 
@@ -133,53 +132,3 @@ module _ (b1 b2 : ℕ) (bs : List ℕ) (h1 : is_digit b1 ≡ true) (h2 : is_digi
 -- a digit or a sign
 abbrev begins_number : List ℕ → Bool
 begins_number = begins (λ b. is_digit b || eqb b 0x2B || eqb b 0x2D)
-
-digit_begins : (d : ℕ) (bs : List ℕ) → is_digit d ≡ true → begins_number (d ∷ bs) ≡ true
-digit_begins d bs h = or_left _ _ (or_left _ _ h)
-
-sign_begins : (b : ℕ) (bs : List ℕ) → is_sign b ≡ true → begins_number (b ∷ bs) ≡ true
-sign_begins b bs h = grind (arith, nat_tests)
-
-decimal_first : (bs : List ℕ) → is_decimal bs ≡ true → begins_number bs ≡ true
-decimal_first [] h = absurd (false≢true h)
-decimal_first (b ∷ bs) h = ⊎_elim
-    (λ (k : (is_sign b ≡ true) × (is_unsigned bs ≡ true)). sign_begins b bs k.0)
-    (λ (k : (is_sign b ≡ false) × (is_unsigned (b ∷ bs) ≡ true)). digit_begins b bs (decimals_first b bs (unsigned_digits (b ∷ bs) (unsigned_sound (b ∷ bs) k.1))))
-    (either (is_sign b) _ _ _ h)
-
-based_first : (bs : List ℕ) → IsBased bs → begins_number bs ≡ true
-based_first [] h = absurd h
-based_first (z ∷ []) h = absurd h
-based_first (z ∷ letter ∷ bs) h = rw h.0 refl
-
-pub number_first : (bs : List ℕ) → is_integer_form bs ≡ true → begins (λ b. is_digit b || eqb b 0x2B || eqb b 0x2D) bs ≡ true
-number_first bs h = ⊎_elim (λ e. decimal_first bs e) (λ e. based_first bs (based_sound bs e)) (or_cases _ _ h)
-
-begins_take : (p : ℕ → Bool) (n : ℕ) (bs : List ℕ) → begins p (take n bs) ≡ true → begins p bs ≡ true
-begins_take p zero bs h = absurd (false≢true h)
-begins_take p (suc n) [] h = h
-begins_take p (suc n) (b ∷ bs) h = h
-
-special_first : (bs : List ℕ) → signed is_named_float bs ≡ true → (begins_number bs ≡ true) ⊎ IsNamedFloat bs
-special_first [] h = inr (named_sound [] h)
-special_first (b ∷ bs) h = ⊎_elim
-    (λ (k : (is_sign b ≡ true) × (is_named_float bs ≡ true)). inl (sign_begins b bs k.0))
-    (λ (k : (is_sign b ≡ false) × (is_named_float (b ∷ bs) ≡ true)). inr (named_sound (b ∷ bs) k.1))
-    (either (is_sign b) _ _ _ h)
-
--- a float that begins with no digit and no sign is a name
-pub float_first_or_name : (bs : List ℕ) → is_float bs ≡ true → (begins (λ b. is_digit b || eqb b 0x2B || eqb b 0x2D) bs ≡ true) ⊎ IsNamedFloat bs
-float_first_or_name bs h = ⊎_elim
-    (λ (e : signed is_named_float bs ≡ true). special_first bs e)
-    (λ (e : is_number_float bs ≡ true). inl (begins_take _ (whole_len bs) bs (decimal_first (whole bs) (and_parts _ _ e).0)))
-    (or_cases _ _ h)
-
-wider_first : (bs : List ℕ) → begins_number bs ≡ true → begins (λ b. is_digit b || eqb b 0x2B || eqb b 0x2D || eqb b 0x69 || eqb b 0x6E) bs ≡ true
-wider_first [] h = h
-wider_first (b ∷ bs) h = or_left _ _ (or_left _ _ h)
-
-pub float_first : (bs : List ℕ) → is_float bs ≡ true → begins (λ b. is_digit b || eqb b 0x2B || eqb b 0x2D || eqb b 0x69 || eqb b 0x6E) bs ≡ true
-float_first bs h = ⊎_elim
-    (λ (e : begins_number bs ≡ true). wider_first bs e)
-    (λ (e : IsNamedFloat bs). named_either (λ xs. begins (λ b. is_digit b || eqb b 0x2B || eqb b 0x2D || eqb b 0x69 || eqb b 0x6E) xs ≡ true) refl refl bs e)
-    (float_first_or_name bs h)

@@ -1,12 +1,10 @@
 -- What the code of escapes computes.
-use Rattle.std.proofs.Common.{◌≡◌, ℕ, zero, suc, ◌+◌, ◌*◌, ◌^◌, ◌<◌, ◌≤◌, Bool, true, false, cond, ◌||◌, ◌&&◌, List, [], ◌∷◌, ◌++◌, length, take, drop, get_or, Option, Some, None, sym, refl, ap, ◌∙◌, subst, arith, add-one, eqb, drop-cons, length-append}
+use Rattle.std.proofs.Common.{◌≡◌, ℕ, zero, suc, ◌+◌, ◌*◌, ◌^◌, ◌<◌, ◌≤◌, Bool, true, false, cond, ◌||◌, ◌&&◌, List, [], ◌∷◌, ◌++◌, length, take, drop, get_or, Option, Some, None, sym, refl, ap, ◌∙◌, subst, arith, eqb, length-append}
 use Rattle.std.specs.Prelude.{nat_le, nat_lt, option_map, if◌then◌else◌}
 use Rattle.std.specs.Char.{digit_value, IsScalar}
 use lib.Utf8.{scalar}
 use Rattle.std.proofs.Math.Nat.{pow-zero, pow-succ', pow-le-pow_right}
-use Rattle.std.proofs.Math.ListN.{drop_of_length-le}
 use Rattle.std.proofs.lemmas.Bool.{cond-true, cond-false, leb-true, and_from, and_left, and_right, lt-leb, le-leb, ne_eqb, false_from_ne_true}
-use Rattle.std.proofs.lemmas.Bool.Decides.{nat_tests}
 use Rattle.std.proofs.lemmas.List.{length-take-le}
 use Rattle.toml_text.specs.Bytes.{is_ws, is_hex}
 use Rattle.toml_text.specs.Forms.{Each}
@@ -21,25 +19,6 @@ use Rattle.toml_scalar.proofs.StringSpaces.{spaces_len-le}
 use Rattle.toml_scalar.proofs.StringPieces.{each_hex}
 
 -- digits
-
-hex_digit : (b : ℕ) → digit_value b < 16 → is_hex b ≡ true
-hex_digit b h = grind (arith, nat_tests)
-
-hex_other : (b : ℕ) → ¬ (digit_value b < 16) → is_hex b ≡ false
-hex_other b h = grind (arith, nat_tests)
-
-module _ (value i : ℕ) (bs : List ℕ) (within : i < length bs) where
-  pub hex_more : digit_value (get_or bs i 0) < 16 → hex_after value (drop i bs) ≡ hex_after (value * 16 + digit_value (get_or bs i 0)) (drop (i + 1) bs)
-  hex_more h = rw (add-one, drop-cons bs i 0) (cond-true _ _ _ (hex_digit (get_or bs i 0) h))
-
-  pub hex_stop : ¬ (digit_value (get_or bs i 0) < 16) → hex_after value (drop i bs) ≡ None
-  hex_stop h = rw (drop-cons bs i 0) (cond-false _ _ _ (hex_other (get_or bs i 0) h))
-
-pub hex_end : (value i : ℕ) (bs : List ℕ) → length bs ≤ i → hex_after value (drop i bs) ≡ Some value
-hex_end value i bs past = rw (drop_of_length-le bs past) refl
-
-pub power_more : (i : ℕ) → 16 ^ (i + 1) ≡ 16 * 16 ^ i
-power_more i = rw add-one (pow-succ' 16 i)
 
 pub power_seven : (i : ℕ) → i < 8 → 16 ^ i ≤ 16 ^ 7
 power_seven i h = pow-le-pow_right {n = 16} (omega arith) {i = i} {j = 7} (omega arith)

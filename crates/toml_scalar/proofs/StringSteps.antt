@@ -13,14 +13,6 @@ pieces_text-append ps qs = flat_map-append piece_text ps qs
 abbrev pub behind : List StringPiece → Option (List StringPiece) → Option (List StringPiece)
 behind ps o = option_map (λ qs. ps ++ qs) o
 
-pub behind-nil : (o : Option (List StringPiece)) → behind [] o ≡ o
-behind-nil None = refl
-behind-nil (Some qs) = refl
-
-pub behind-behind : (ps qs : List StringPiece) (o : Option (List StringPiece)) → behind ps (behind qs o) ≡ behind (ps ++ qs) o
-behind-behind ps qs None = refl
-behind-behind ps qs (Some rs) = ap Some (sym (append_assoc ps qs rs))
-
 -- behind pieces of one byte or more, the rest is what is left
 skip_text : (ps : List StringPiece) (b : ℕ) (bs rest : List ℕ) → b ∷ bs ≡ pieces_text ps ++ rest → 0 < length (pieces_text ps) → drop (length (pieces_text ps) - 1) bs ≡ rest
 skip_text ps b bs rest is more =
