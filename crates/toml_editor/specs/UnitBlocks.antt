@@ -15,7 +15,9 @@ use Rattle.toml_working.specs.Inserting.{insert_in}
 use Rattle.toml_working.specs.Manners.{Manner}
 use Rattle.toml_working.specs.Removing.{remove_lines}
 use Rattle.toml_layout.specs.Spacings.{Spacing, plain_spacing}
-use Rattle.toml_working.specs.Written.{HasUndottedLine, HasSection}
+use Rattle.toml_working.specs.RemoveStanding.{LeavesParent}
+use Rattle.toml_working.specs.Standing.{standing}
+use Rattle.toml_working.specs.Written.{HasSection}
 
 -- a keyval line: itself, what lies in its value, and its comment; to the table in which it stands lead so many steps
 abbrev pub pair_line_units : Piece → Address → ℕ → Value → Option Piece → List TextUnit
@@ -65,6 +67,6 @@ InsertUnits = (q : Address) (name : List ℕ) (v : Value) (manner : Manner) (lin
 
 -- Law: the units of the new lines are those of the old ones without those of the line.
 abbrev pub RemoveUnits : Type 0
-RemoveUnits = (p : Address) (lines : List Line) → AreLines lines → HasUndottedLine lines p → KeepsRules (named lines)
-    → (piece : Piece) × (base : ℕ) × (v : Value) × (comment : Option Piece) × (length p ≡ base + 1)
+RemoveUnits = (p : Address) (lines : List Line) → AreLines lines → LeavesParent p (standing lines) → KeepsRules (named lines)
+    → (piece : Piece) × (base : ℕ) × (v : Value) × (comment : Option Piece) × (base < length p)
     × IsBlockTaken (units lines) (pair_line_units piece p base v comment) (units (remove_lines p lines))

@@ -21,6 +21,7 @@ mod SetStanding
 mod OneByOne
 mod Renamed
 mod RenamedSlots
+mod MadeBeside
 mod Removed
 mod RemovedOne
 mod HeldLines

@@ -1,10 +1,11 @@
 -- The line that a `remove` takes out: no other stands at the address or below it.
-use Rattle.std.proofs.Common.{◌≡◌, ◌∙◌, ℕ, ◌+◌, ◌==◌, ◌<◌, ◌≤◌, Bool, true, false, cond, ◌||◌, List, [], ◌∷◌, ◌++◌, length, set, Option, Some, None, refl, ap, ap₂, sym, subst, arith, true≢false, append_assoc}
+use Rattle.std.proofs.Common.{◌≡◌, ◌∙◌, ◌⊎◌, inl, inr, ℕ, ◌+◌, ◌==◌, ◌<◌, ◌≤◌, Bool, true, false, cond, ◌||◌, List, [], ◌∷◌, ◌++◌, length, set, Option, Some, None, refl, ap, ap₂, sym, subst, arith, true≢false, append_assoc}
 use Rattle.std.specs.List.{list_any}
 use Rattle.std.specs.Prelude.{slice_get}
 use Rattle.std.proofs.lemmas.Bool.{and_parts, eqb-true}
 use Rattle.std.proofs.lemmas.List.Folds.{list_any-append}
 use Rattle.toml_names.proofs.Proved.{same_address-decides}
+use Rattle.toml_names.specs.declared.model.address.Step.{Step}
 use Rattle.toml_names.specs.model.Addresses.{Address}
 use Rattle.toml_text.specs.Source.{text_of}
 use Rattle.toml_tree.specs.Spells.{EachIs}
@@ -12,8 +13,8 @@ use Rattle.toml_working.specs.declared.lines.Slot.{Slot}
 use Rattle.toml_working.specs.declared.lines.Sought.TheVariants as sought
 use Rattle.toml_working.specs.declared.working.Position.{Position}
 use Rattle.toml_working.specs.declared.working.Tree.{Tree}
-use Rattle.toml_working.specs.RemoveStanding.{is_pair, is_undotted_at, is_undotted_pair, is_value_at, left_standing, remove_standing, without}
-use Rattle.toml_working.specs.RemovingIn.{IsAtMostOneBelow, LeavesSlot, LeavesSlots, RemovesLines, base_of, steps_or_zero}
+use Rattle.toml_working.specs.RemoveStanding.{LeavesParent, is_pair, is_undotted_at, is_undotted_pair, is_value_at, left_standing, makes_beside, remove_standing, without}
+use Rattle.toml_working.specs.RemovingIn.{KeepsParent, LeavesSlot, LeavesSlots, RemovesLines, base_of, steps_or_zero}
 use Rattle.toml_working.specs.Seeing.{HoldsNone, IsSoughtAt, line_at, steps_of, steps_to}
 use Rattle.toml_working.specs.Standing.{Standing, Read, StandAlone, covers, covers_at, holds, is_below, leads_to, lies_below, slot_standing, slots_standing}
 use Rattle.toml_layout.specs.Beginnings.{begins}
@@ -24,7 +25,7 @@ use Rattle.toml_working.proofs.AtPlace.{holder_at}
 use Rattle.toml_working.proofs.Each.{each_back, each_front, each_get, each_set, each_weaker}
 use Rattle.toml_working.proofs.Turned.{one_turned}
 use Rattle.toml_working.proofs.HeldLines.{any_weaker, steps_left}
-use Rattle.toml_working.specs.HeldLines.{HeldIsNoLine, UndottedIsPair, has_container_at}
+use Rattle.toml_working.specs.HeldLines.{HeldIsNoLine, LeavingIsPair, has_container_at}
 use Rattle.toml_working.proofs.Pairwise.{PairsAre, pairs_of_all}
 
 -- the address of a pair's line
@@ -163,8 +164,9 @@ undotted_base p (Some n) own is =
     let same : length p ≡ n + 1 = eqb-true (length p) (n + 1) (and_parts (is_value_at p (Some n) own) (length p == n + 1) is).1 in
     omega (arith, same)
 
-pub undotted_is_pair : UndottedIsPair
-undotted_is_pair p ss = any_weaker (is_undotted_pair p) (is_pair p) (λ s is. undotted_pair p s.base s.address is) ss
+pub leaving_is_pair : LeavingIsPair
+leaving_is_pair p ss (inl there) = any_weaker (is_undotted_pair p) (is_pair p) (λ s is. undotted_pair p s.base s.address is) ss there
+leaving_is_pair p ss (inr there) = there.0
 
 -- of lines that stand alone it is the one that is the pair's
 undotted_here : (p : Address) (front : List Standing) (s : Standing) (back : List Standing) → is_pair p s ≡ true → EachIs (λ t. is_below p t ≡ false) front
@@ -195,15 +197,12 @@ placed_goes p read old now at ss t h put left =
     ∙ ap (remove_standing p) (sym h.all)
 
 pub holder_goes : (p : Address) (read : Read) (old now : Tree) (at : Position) → KeepsRest old now
-    → (IsAtMostOneBelow p read old.slots.items at → LeavesSlots p read.units at.slot old.slots.items now.slots.items)
+    → (KeepsParent p read old.slots.items at → LeavesSlots p read.units at.slot old.slots.items now.slots.items)
     → IsSoughtAt sought.Holder p read old.slots.items at → RemovesLines p read old now
 holder_goes p read old now at rest leaves found ss stands ordered there =
     let text = text_of old.texts.source in
-    let h = is_placed p read old.slots.items at ss found stands.are ordered.alone (undotted_is_pair p ss there) in
-    let undotted = undotted_here p (h.before ++ h.front) h.line (h.back ++ h.behind) h.pair h.ahead h.after
-    (subst (λ xs. list_any (is_undotted_pair p) xs ≡ true) h.all there) in
-    let low = subst (λ o. length p ≤ base_of o + 1) (sym h.placed) (undotted_base p h.line.base h.line.address undotted) in
-    let (t, put, left) = one_turned (LeavesSlot p read.units) at.slot old.slots.items now.slots.items h.slot h.there (leaves low) in
+    let h = is_placed p read old.slots.items at ss found stands.are ordered.alone (leaving_is_pair p ss there) in
+    let (t, put, left) = one_turned (LeavesSlot p read.units) at.slot old.slots.items now.slots.items h.slot h.there (leaves (keeps h there)) in
     let (kept, is) = left text read refl (each_get (SlotKept text read) old.slots.items at.slot h.slot stands.kept h.there) in (
       rest,
       record {
@@ -211,12 +210,19 @@ holder_goes p read old now at rest leaves found ss stands ordered there =
         are = placed_goes p read old.slots.items now.slots.items at ss t h put is;
       },
     )
+  where
+    keeps : IsPlaced p read old.slots.items at ss → LeavesParent p ss → KeepsParent p read old.slots.items at
+    keeps h (inl one) =
+        let undotted = undotted_here p (h.before ++ h.front) h.line (h.back ++ h.behind) h.pair h.ahead h.after
+        (subst (λ xs. list_any (is_undotted_pair p) xs ≡ true) h.all one) in
+        inl (subst (λ o. length p ≤ base_of o + 1) (sym h.placed) (undotted_base p h.line.base h.line.address undotted))
+    keeps h (inr (pair, q, last, is, made)) = inr (q, last, is, subst (λ xs. list_any (makes_beside q p) xs ≡ true) (sym stands.are) made)
 
 -- the line at the place does not hold it in its value
 pub never_inside : (p : Address) (read : Read) (old now : Tree) (at : Position) (steps : ℕ) → steps ≡ steps_of (line_at read old.slots.items at) → steps < length p
     → IsSoughtAt sought.Holder p read old.slots.items at → RemovesLines p read old now
 never_inside p read old now at steps counts low found ss stands ordered there =
-    let h = is_placed p read old.slots.items at ss found stands.are ordered.alone (undotted_is_pair p ss there) in
+    let h = is_placed p read old.slots.items at ss found stands.are ordered.alone (leaving_is_pair p ss there) in
     let same : steps ≡ length p = counts ∙ ap steps_of h.placed ∙ ap steps_to (pair_address p h.line.base h.line.address h.pair) in
     absurd (omega arith)
 
@@ -252,12 +258,21 @@ none_at_root (s ∷ ss) h = by (none_at_root ss) (is_undotted_pair [] s) refl h
     by behind true is there = no_pair_at_root s is
     by behind false is there = behind there
 
+-- nor does a value that leaves the table above it
+none_leaves_root : (ss : List Standing) → LeavesParent [] ss → ⊥
+none_leaves_root ss (inl there) = none_at_root ss there
+none_leaves_root ss (inr (pair, q, last, is, made)) = no_step q last is
+  where
+    no_step : (q : Address) (last : Step) → ([] ≡ q ++ last ∷ []) → ⊥
+    no_step [] last is = cc
+    no_step (s ∷ q) last is = cc
+
 -- where no line holds it, no such edit is made
 pub none_goes : (p : Address) (read : Read) (old now : Tree) → HoldsNone p read.units old.slots.items → RemovesLines p read old now
 none_goes p read old now none ss stands ordered there =
-    let not_root : ¬ (p ≡ []) = λ is. none_at_root ss (subst (λ q. list_any (is_undotted_pair q) ss ≡ true) is there) in
+    let not_root : ¬ (p ≡ []) = λ is. none_leaves_root ss (subst (λ q. LeavesParent q ss) is there) in
     let all = none not_root read.lines (subst StandAlone (sym stands.are) ordered.alone) in
-    absurd (any_holds p ss (undotted_is_pair p ss there) (subst (λ xs. list_any (holds p) xs ≡ false) stands.are all))
+    absurd (any_holds p ss (leaving_is_pair p ss there) (subst (λ xs. list_any (holds p) xs ≡ false) stands.are all))
 
 -- ---- what is held in a value
 

@@ -1,8 +1,11 @@
 -- `remove` on lines by what finds them: the line whose value stands at the address goes; a last line leaves one of no bytes.
-use Rattle.std.specs.Prelude.{ℕ, ◌+◌, Bool, false, ◌&&◌, List, [], ◌∷◌, ◌++◌, length, ◌==◌, if◌then◌else◌, Option, Some, None}
+use Rattle.std.specs.Prelude.{◌≡◌, ◌⊎◌, ℕ, ◌+◌, Bool, true, false, ◌&&◌, ◌||◌, not, List, [], ◌∷◌, ◌++◌, length, ◌==◌, if◌then◌else◌, Option, Some, None}
+use Rattle.std.specs.List.{list_any}
+use Rattle.toml_names.specs.declared.model.address.Step.{Step}
 use Rattle.toml_names.specs.model.Addresses.{Address, same_address}
 use Rattle.toml_layout.specs.Outlines.{no_line}
-use Rattle.toml_working.specs.Standing.{Standing}
+use Rattle.toml_working.specs.Seeing.{is_dotted, heads_below}
+use Rattle.toml_working.specs.Standing.{Standing, lies_below}
 
 -- a line of no bytes
 abbrev pub empty_standing : Standing
@@ -40,3 +43,20 @@ is_undotted_pair p s = is_undotted_at p s.base s.address
 
 abbrev pub remove_standing : Address → List Standing → List Standing
 remove_standing p = without (is_pair p)
+
+-- whether the dotted key of a line with this base and address makes the table at the other, or the line is a header there or below
+abbrev pub makes : Address → Option ℕ → Option Address → Bool
+makes q base own = is_dotted q base own || heads_below q base own
+
+-- whether such a line stands beside another address: neither there nor below
+abbrev pub makes_apart : Address → Address → Option ℕ → Option Address → Bool
+makes_apart q p base own = makes q base own && not (lies_below p own)
+
+abbrev pub makes_beside : Address → Address → Standing → Bool
+makes_beside q p s = makes_apart q p s.base s.address
+
+-- A line has the value at the address, and the table right above that stays without it: it is the one in which the line stands, since the key
+-- is not dotted, or another line makes it.
+abbrev pub LeavesParent : Address → List Standing → Type 0
+LeavesParent p ss = (list_any (is_undotted_pair p) ss ≡ true)
+    ⊎ ((list_any (is_pair p) ss ≡ true) × (q : Address) × (last : Step) × (p ≡ q ++ last ∷ []) × (list_any (makes_beside q p) ss ≡ true))

@@ -1,4 +1,4 @@
--- `remove` of a value that a line has by a key that is not dotted: the line goes with its newline; a last line leaves one of no bytes.
+-- `remove` of a value of a line: the line goes with its newline; a last line leaves one of no bytes.
 use Rattle.std.specs.Prelude.{List, [], ◌∷◌, length, ◌==◌, if◌then◌else◌, None}
 use Rattle.toml_tree.specs.Bare.{fresh}
 use Rattle.toml_tree.specs.Tree.{BlankLine, KeyValLine, TableLine, ArrayTableLine, Line}

@@ -1,6 +1,7 @@
 -- What a `remove` of a line makes of the lines of the working tree.
-use Rattle.std.specs.Prelude.{◌≡◌, ◌≤◌, ◌+◌, true, ℕ, List, [], ◌∷◌, length, map, Option, Some, None}
+use Rattle.std.specs.Prelude.{◌≡◌, ◌⊎◌, ◌≤◌, ◌+◌, Bool, true, ℕ, List, [], ◌∷◌, ◌++◌, length, map, Option, Some, None}
 use Rattle.std.specs.List.{list_any}
+use Rattle.toml_names.specs.declared.model.address.Step.{Step}
 use Rattle.toml_names.specs.model.Addresses.{Address}
 use Rattle.toml_text.specs.Source.{text_of}
 use Rattle.toml_tree.specs.Spells.{EachIs}
@@ -10,9 +11,9 @@ use Rattle.toml_working.specs.declared.lines.Line.{Line}
 use Rattle.toml_working.specs.declared.lines.Slot.{Slot}
 use Rattle.toml_working.specs.declared.working.Position.{Position}
 use Rattle.toml_working.specs.declared.working.Tree.{Tree}
-use Rattle.toml_working.specs.RemoveStanding.{is_undotted_pair, left_standing, remove_standing, without, without_one}
+use Rattle.toml_working.specs.RemoveStanding.{LeavesParent, left_standing, makes_beside, remove_standing, without, without_one}
 use Rattle.toml_working.specs.Seeing.{line_at, read_by}
-use Rattle.toml_working.specs.Standing.{Standing, Read, AreOrdered, is_below, line_standing, slot_standing}
+use Rattle.toml_working.specs.Standing.{Standing, Read, AreOrdered, is_below, line_standing, slot_standing, slots_standing}
 use Rattle.toml_working.specs.Stands.{BodyKept, KeepsRest, SlotKept, Stands}
 use Rattle.toml_working.specs.Turning.{OneTurns}
 
@@ -65,8 +66,20 @@ CountsBase units slots at result = (lines : List tree.Line) → result ≡ base_
 abbrev pub IsAtMostOneBelow : Address → Read → List Slot → Position → Type 0
 IsAtMostOneBelow p read slots at = length p ≤ base_of (line_at read slots at) + 1
 
--- a `remove` on lines, on one of which a key that is not dotted has the value
+-- whether one of the lines makes the table, and stands beside the address
+abbrev pub TellsMade : Address → Address → List ReadUnit → List Slot → Bool → Type 0
+TellsMade q p units slots result = (lines : List tree.Line) → result ≡ list_any (makes_beside q p) (slots_standing (read_by units lines) slots)
+
+abbrev pub SlotTellsMade : Address → Address → List ReadUnit → Slot → Bool → Type 0
+SlotTellsMade q p units slot result = (lines : List tree.Line) → result ≡ list_any (makes_beside q p) (slot_standing (read_by units lines) slot)
+
+-- the table right above the address stays: the line at the place stands in it, or another line makes it
+abbrev pub KeepsParent : Address → Read → List Slot → Position → Type 0
+KeepsParent p read slots at = IsAtMostOneBelow p read slots at
+    ⊎ ((q : Address) × (last : Step) × (p ≡ q ++ last ∷ []) × (list_any (makes_beside q p) (slots_standing read slots) ≡ true))
+
+-- a `remove` on lines, of which one has the value, and leaves the table right above it
 abbrev pub RemovesLines : Address → Read → Tree → Tree → Type 0
 RemovesLines p read old now =
-    (ss : List Standing) → Stands (text_of old.texts.source) read old.slots.items ss → AreOrdered ss → list_any (is_undotted_pair p) ss ≡ true
+    (ss : List Standing) → Stands (text_of old.texts.source) read old.slots.items ss → AreOrdered ss → LeavesParent p ss
     → KeepsRest old now × Stands (text_of old.texts.source) read now.slots.items (remove_standing p ss)

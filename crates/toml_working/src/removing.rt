@@ -2,7 +2,10 @@
 ghost use Rattle.std.specs.Prelude.{◌≡◌, IfOk, OnOk, true};
 ghost use Rattle.toml_working.specs.HeldLines.{TakesFromValue};
 ghost use Rattle.toml_working.specs.InValues.{IsParent};
-ghost use Rattle.toml_working.specs.RemovingIn.{IsAtMostOneBelow, LeavesBehind, LeavesLines, LeavesOf, LeavesSlot, LeavesSlots, RemovesLines};
+ghost use Rattle.std.specs.List.{list_any};
+ghost use Rattle.toml_working.specs.RemoveStanding.{makes_apart};
+ghost use Rattle.toml_working.specs.declared.lines.Line.{Line as WorkingLine};
+ghost use Rattle.toml_working.specs.RemovingIn.{KeepsParent, LeavesBehind, LeavesLines, LeavesOf, LeavesSlot, LeavesSlots, RemovesLines, SlotTellsMade, TellsMade};
 ghost use Rattle.toml_working.specs.Seeing.{IsSoughtAt};
 ghost use Rattle.toml_working.specs.declared.lines.Sought.TheVariants.{Holder};
 ghost use Rattle.toml_working.specs.Starting.{read_of};
@@ -17,7 +20,7 @@ use toml_layout::{Inside, KnownLine, Texts};
 use toml_names::{Address, Place, Step};
 use toml_units::Unit;
 
-/// What is left of the first removed line that mentions the parent, where no line that stays does.
+/// What is left of the first removed line by which the parent stands, where it stands by no line that stays.
 #[derive(Drop)]
 struct Parent {
     address: Address,
@@ -91,7 +94,7 @@ impl<'x> Tree<'x> {
     ) -> Result<(), AllocError>
         ensures rest { OnOk result (KeepsRest self.old self.new) }
         ensures slots { let old = self.old.slots.items in
-            OnOk result (IsAtMostOneBelow at.now (read_of before.entry) old place → LeavesSlots at.now before.entry.units.now place.slot old self.new.slots.items) }
+            OnOk result (KeepsParent at.now (read_of before.entry) old place → LeavesSlots at.now before.entry.units.now place.slot old self.new.slots.items) }
     {
         let mut parent = self.parent_of_line(before, at, place)?;
         remove_in(
@@ -104,27 +107,24 @@ impl<'x> Tree<'x> {
         )
     }
 
-    /// The parent of the address of a line. Where this is the table in whose section the line stands, the header of the section
-    /// mentions it.
+    /// The parent of the address of a line. Where this is the table in whose section the line stands, that stays.
     fn parent_of_line(
         &self,
         before: Before<'_, 'x>,
         at: &Address,
         place: Position,
     ) -> Result<Parent, AllocError>
-        ensures { IfOk result (λ parent. IsAtMostOneBelow at.now (read_of before.entry) self.now.slots.items place → parent.stays ≡ true) }
+        ensures { let read = read_of before.entry in
+            IfOk result (λ parent. KeepsParent at.now read self.now.slots.items place → parent.stays ≡ true) }
     {
-        if self.base(before, place).saturating_add(1) < at.steps().len() {
-            return self.parent_left(before, at, place.slot);
-        }
-        Ok(Parent {
-            address: parent_of(self.alloc(), at)?,
-            stays: true,
-        })
+        let address = parent_of(self.alloc(), at)?;
+        let is_dotted = self.base(before, place).saturating_add(1) < at.steps().len();
+        let stays = !is_dotted || self.is_made_around(before, place.slot, &address, at);
+        Ok(Parent { address, stays })
     }
 
-    /// The parent of the address, and whether it is the root or a line that is not at the address, nor below it, mentions it:
-    /// such a line is mostly near before the slot.
+    /// The parent of the address, and whether it is the root, or stands by a line that is not at the address, nor below it: such a
+    /// line is mostly near before the slot.
     fn parent_left(
         &self,
         before: Before<'_, 'x>,
@@ -132,33 +132,25 @@ impl<'x> Tree<'x> {
         slot: usize,
     ) -> Result<Parent, AllocError> {
         let address = parent_of(self.alloc(), at)?;
-        let stays = address.steps().is_empty()
-            || self.is_mentioned_around(before, slot, &address, at);
+        let stays =
+            address.steps().is_empty() || self.is_made_around(before, slot, &address, at);
         Ok(Parent { address, stays })
     }
 
-    /// Whether a line that is not at the other address, nor below it, mentions the address. The slots before this one are asked
-    /// first, the nearest before the others.
-    fn is_mentioned_around(
+    /// Whether what is at the address stands by a line that is not at the other address, nor below it. The slots before this one are
+    /// asked first, the nearest before the others.
+    fn is_made_around(
         &self,
         before: Before<'_, 'x>,
         slot: usize,
         address: &Address,
         other: &Address,
-    ) -> bool {
-        let units = before.units;
+    ) -> bool
+        ensures { TellsMade address.now other.now before.entry.units.now self.now.slots.items result }
+    {
         let (above, behind) = self.slots.split_at(slot.min(self.slots.len()));
-        for near in above.iter().rev() {
-            if near.is_mentioned(units, address, other) {
-                return true;
-            }
-        }
-        for near in behind {
-            if near.is_mentioned(units, address, other) {
-                return true;
-            }
-        }
-        false
+        is_made_above(above, before.units, address, other)
+            || is_made_in(behind, before.units, address, other)
     }
 
     /// Whether the address is not that of an element, or another element of its array stays.
@@ -172,11 +164,11 @@ impl<'x> Tree<'x> {
             return Ok(true);
         }
         let array = parent_of(self.alloc(), at)?;
-        Ok(self.is_mentioned_around(before, first, &array, at))
+        Ok(self.is_made_around(before, first, &array, at))
     }
 
-    /// Takes out all lines at the address and below, of which the slot has the first or comes before it. Where no other line
-    /// mentions the parent, the first of them that does becomes the parent as an empty table.
+    /// Takes out all lines at the address and below, of which the slot has the first or comes before it. Where the parent stands by
+    /// no other line, the first of them by which it does becomes the parent as an empty table.
     fn remove_lines(
         &mut self,
         before: Before<'_, 'x>,
@@ -218,17 +210,14 @@ impl<'t> Slot<'t> {
         false
     }
 
-    /// Whether a line of it that is not at the other address, nor below it, mentions the address.
-    fn is_mentioned<'a>(&'a self, units: &'a [Unit], address: &Address, other: &Address) -> bool {
-        for index in 0..self.count() {
-            let Some(line) = self.seen(units, index) else {
-                return false;
-            };
-            if line.mentions(address) && !line.is_below(other) {
-                return true;
-            }
+    /// Whether what is at the address stands by a line of it that is not at the other address, nor below it.
+    fn is_made(&self, units: &[Unit], address: &Address, other: &Address) -> bool
+        ensures { SlotTellsMade address.now other.now units.now self.now result }
+    {
+        match self {
+            Slot::Kept(kept) => kept.seen(units).makes_beside(address, other),
+            Slot::Lines(lines) => is_any_made(lines, address, other),
         }
-        false
     }
 
     /// Takes out its lines at the address and below.
@@ -247,6 +236,43 @@ impl<'t> Slot<'t> {
             Slot::Kept(_) => Ok(()),
         }
     }
+}
+
+/// Whether what is at the address stands by one of the lines that is not at the other address, nor below it.
+fn is_any_made(lines: &[Line<'_>], address: &Address, other: &Address) -> bool
+    ensures { result ≡ list_any (λ (l : WorkingLine). makes_apart address.now other.now l.base l.address) lines.now }
+{
+    for line in lines {
+        if line.seen().makes_beside(address, other) {
+            return true;
+        }
+    }
+    false
+}
+
+/// Whether what is at the address stands by a line of the slots that is not at the other address, nor below it. The last slot is asked
+/// first.
+fn is_made_above(slots: &[Slot<'_>], units: &[Unit], address: &Address, other: &Address) -> bool
+    ensures { TellsMade address.now other.now units.now slots.now result }
+{
+    for place in (0..slots.len()).rev() {
+        if slots[place].is_made(units, address, other) {
+            return true;
+        }
+    }
+    false
+}
+
+/// The same, the first slot first.
+fn is_made_in(slots: &[Slot<'_>], units: &[Unit], address: &Address, other: &Address) -> bool
+    ensures { TellsMade address.now other.now units.now slots.now result }
+{
+    for slot in slots {
+        if slot.is_made(units, address, other) {
+            return true;
+        }
+    }
+    false
 }
 
 /// Takes out the lines of the slot at the address and below, if there is such a slot.
@@ -314,7 +340,7 @@ fn removed<'t>(
     ensures parent { OnOk result (parent.old.stays ≡ true → parent.new.stays ≡ true) }
     ensures left { IfOk result (λ left. parent.old.stays ≡ true → LeavesBehind line.entry left) }
 {
-    if !parent.stays && line.seen().mentions(&parent.address) {
+    if !parent.stays && line.seen().makes(&parent.address) {
         parent.stays = true;
         let mut line = line;
         line.stand_for(texts, known, &parent.address)?;

@@ -4,6 +4,7 @@ ghost use Rattle.toml_names.specs.model.Addresses.{lent};
 ghost use Rattle.toml_working.specs.InsertStanding.{is_bare};
 ghost use Rattle.toml_working.specs.LookingUp.{last_pair_from};
 ghost use Rattle.toml_working.specs.Placing.{is_header, pair_at};
+ghost use Rattle.toml_working.specs.RemoveStanding.{makes, makes_apart};
 ghost use Rattle.toml_working.specs.RenameStanding.{part_number};
 ghost use Rattle.toml_working.specs.Seeing.{heads, heads_below, is_dotted, is_sought, seen, steps_to};
 ghost use Rattle.toml_working.specs.Standing.{leads_to, lies_below};
@@ -117,25 +118,19 @@ impl Seen<'_> {
         }
     }
 
-    /// Whether its own key mentions the address: a keyval each table that its key passes, and its value; a header each table
-    /// and element that its key passes, and what it stands for.
-    pub(crate) fn mentions(self, at: &Address) -> bool {
-        if !self.is_below(at) {
-            return false;
-        }
-        match self.base {
-            Some(base) => base < at.steps().len(),
-            None => !self.passes_on(at),
-        }
+    /// Whether the table or the array of tables at the address stands by it: its dotted key makes the table, or it is a header there
+    /// or below.
+    pub(crate) fn makes(self, at: &Address) -> bool
+        ensures { result ≡ makes at.now self.entry.base (lent self.entry.address) }
+    {
+        self.is_dotted_in(at) || self.is_header_below(at)
     }
 
-    /// Whether a header's key passes from an array of tables, at the address, on to an element of it.
-    fn passes_on(self, at: &Address) -> bool {
-        let (Some(own), count) = (self.address, at.steps().len()) else {
-            return false;
-        };
-        let is_own = self.is_tables && own.steps().len() == count.saturating_add(1);
-        matches!(own.steps().get(count), Some(Step::Index(_))) && !is_own
+    /// The same, where it is not at the other address, nor below it.
+    pub(crate) fn makes_beside(self, at: &Address, other: &Address) -> bool
+        ensures { result ≡ makes_apart at.now other.now self.entry.base (lent self.entry.address) }
+    {
+        self.makes(at) && !self.is_below(other)
     }
 
     /// Whether it is the header of a later element of the array of tables whose element stands at the address. New elements come

@@ -109,4 +109,4 @@ module _ (name : List ℕ) where
   ]
 
 pub root_pairs : RootPairIsLine
-root_pairs name lines there = root_pair_is_line name lines (has_of_any _ (named lines) there)
+root_pairs name lines there = inl (root_pair_is_line name lines (has_of_any _ (named lines) there))
