@@ -65,6 +65,7 @@ pub mod StandingHas
 pub mod StandingOrder
 pub mod StandingThere
 pub mod Steps
+pub mod TablesStay
 pub mod Texts
 pub mod Together
 pub mod UnitsAlike

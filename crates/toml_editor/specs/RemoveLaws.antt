@@ -14,22 +14,21 @@ use Rattle.toml_edits.specs.After.{IsAfter}
 use Rattle.toml_edits.specs.Edits.{remove}
 use Rattle.toml_editor.specs.Blocks.{IsPut, value_block, named_plain}
 use Rattle.toml_working.specs.Removing.{left_behind, remove_lines}
-use Rattle.toml_working.specs.RemoveStanding.{LeavesParent}
-use Rattle.toml_working.specs.Standing.{standing}
+use Rattle.toml_working.specs.Written.{LeavesTable}
 
 -- Law: the old lines name what the new ones do, the tables that the key of the line makes, and the value.
 abbrev pub RemoveNames : Type 0
-RemoveNames = (p : Address) (lines : List Line) → LeavesParent p (standing lines) → KeepsRules (named lines)
+RemoveNames = (p : Address) (lines : List Line) → LeavesTable lines p → KeepsRules (named lines)
     → (s : Address) × (key : Key) × (v : Value) × (p ≡ below s key)
     × IsPut (named_plain (remove_lines p lines)) (fronts 0 s key ++ value_block p v) (named_plain lines)
 
 -- Law: the table rules and the bound on addresses are kept.
 abbrev pub RemoveGood : Type 0
-RemoveGood = (p : Address) (lines : List Line) → LeavesParent p (standing lines) → AreGood lines → AreGood (remove_lines p lines)
+RemoveGood = (p : Address) (lines : List Line) → LeavesTable lines p → AreGood lines → AreGood (remove_lines p lines)
 
 -- Law: the new lines have the data that the edit makes of those of the old.
 abbrev pub RemoveData : Type 0
-RemoveData = (profile : Profile) (p : Address) (lines : List Line) (old after : Kinds) → LeavesParent p (standing lines) → KeepsRules (named lines)
+RemoveData = (profile : Profile) (p : Address) (lines : List Line) (old after : Kinds) → LeavesTable lines p → KeepsRules (named lines)
     → IsDataOf (named lines) old → IsDataOf (named (remove_lines p lines)) after → IsAfter profile (remove p) old after
 
 -- Law: the lines are in the forms.
@@ -50,6 +49,6 @@ HasValueAt p earlier (ArrayTableLine ws header tail) = ⊥
 
 -- Law: the line goes; all others stay what they are.
 abbrev pub RemoveKeepsLines : Type 0
-RemoveKeepsLines = (p : Address) (lines : List Line) → LeavesParent p (standing lines) → KeepsRules (named lines)
+RemoveKeepsLines = (p : Address) (lines : List Line) → LeavesTable lines p → KeepsRules (named lines)
     → (front : List Line) × (l : Line) × (back : List Line) × (lines ≡ front ++ l ∷ back) × HasValueAt p (named front) l.expr
     × (remove_lines p lines ≡ front ++ (left_behind l ++ back))

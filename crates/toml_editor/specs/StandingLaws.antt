@@ -16,7 +16,7 @@ use Rattle.toml_working.specs.Renaming.{rename_lines}
 use Rattle.toml_working.specs.InsertStanding.{AreRooted, insert_standing}
 use Rattle.toml_working.specs.Inserting.{insert_in, insert_lines}
 use Rattle.toml_working.specs.Manners.{Manner}
-use Rattle.toml_working.specs.RemoveStanding.{LeavesParent, remove_standing}
+use Rattle.toml_working.specs.RemoveStanding.{remove_standing}
 use Rattle.toml_working.specs.Removing.{remove_lines}
 use Rattle.toml_working.specs.Setting.{set_lines}
 use Rattle.toml_working.specs.declared.lines.Sought.TheVariants as sought
@@ -25,7 +25,7 @@ use Rattle.toml_working.specs.Seeing.{AreHeaded, is_sought_line}
 use Rattle.toml_working.specs.Standing.{AreOrdered, Standing, standing, set_standing, has}
 use Rattle.toml_layout.specs.Outlines.{ValueOutline}
 use Rattle.toml_layout.specs.TreeOutlines.{value_outline}
-use Rattle.toml_working.specs.Written.{HasSection, HasValue}
+use Rattle.toml_working.specs.Written.{HasSection, HasValue, LeavesTable}
 
 -- Law: places do not count.
 abbrev pub PlacesDoNotStand : Type 0
@@ -77,11 +77,11 @@ abbrev pub HeaderIsAlone : Type 0
 HeaderIsAlone = (q : Address) (lines : List Line) → KeepsRules (named lines) → list_any (is_sought_line sought.Header q) (standing lines) ≡ true
     → AreHeaded q (standing lines)
 
--- Laws: the value of a key at the root is that of a line, and it leaves the root,
+-- Laws: the value of a key at the root is that of a line, without which the root stays,
 abbrev pub RootPairIsLine : Type 0
 RootPairIsLine = (name : List ℕ) (lines : List Line) → Any (λ m. (m.address ≡ Name name ∷ []) × (m.role ≡ Valued)) (named lines)
-    → LeavesParent (Name name ∷ []) (standing lines)
+    → LeavesTable lines (Name name ∷ [])
 
 -- and the lines after a `remove` are what the `remove` makes of the lines.
 abbrev pub RemoveStands : Type 0
-RemoveStands = (p : Address) (lines : List Line) → standing (remove_lines p lines) ≡ remove_standing p (standing lines)
+RemoveStands = (p : Address) (lines : List Line) → LeavesTable lines p → standing (remove_lines p lines) ≡ remove_standing p (standing lines)

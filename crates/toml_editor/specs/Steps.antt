@@ -15,9 +15,7 @@ use Rattle.toml_edits.specs.After.{IsAfter}
 use Rattle.toml_edits.specs.Edits.{Change, set, insert, rename, remove}
 use Rattle.toml_edits.specs.Faults.{IsFault}
 use Rattle.toml_edits.specs.Lists.{Lead}
-use Rattle.toml_working.specs.RemoveStanding.{LeavesParent}
-use Rattle.toml_working.specs.Standing.{standing}
-use Rattle.toml_working.specs.Written.{HasSection, HasValue, IsWritten, style_of}
+use Rattle.toml_working.specs.Written.{LeavesTable, HasSection, HasValue, IsWritten, style_of}
 use Rattle.toml_working.specs.Manners.{Manner}
 
 -- a text that a good tree of the profile spells, and its data
@@ -38,7 +36,7 @@ abbrev pub IsPlain : List Line → Change → Type 0
 IsPlain lines (set p text) = HasValue lines p
 IsPlain lines (insert p text) = (q : Address) × (name : List ℕ) × (p ≡ child q name) × HasSection lines q
 IsPlain lines (rename p to) = Unit {0}
-IsPlain lines (remove p) = LeavesParent p (standing lines)
+IsPlain lines (remove p) = LeavesTable lines p
 IsPlain lines _ = ⊥
 
 -- Law: a plain edit that makes something of the data writes a text.

@@ -1,6 +1,6 @@
 -- Laws of the units after the `insert` and the `remove` of a line: one block more, or one less, between two lines. The newline of a line is
 -- in no unit. All other units are as they were, with their pieces: a piece of edited lines has the place that it had before.
-use Rattle.std.specs.Prelude.{◌≡◌, ◌+◌, ℕ, List, [], ◌∷◌, ◌++◌, Option, Some, None, length}
+use Rattle.std.specs.Prelude.{◌≡◌, ◌<◌, ◌+◌, ℕ, List, [], ◌∷◌, ◌++◌, Option, Some, None, length}
 use Rattle.toml_scalar.specs.Spelling.{spelled}
 use Rattle.toml_tree.specs.Bare.{fresh}
 use Rattle.toml_tree.specs.Spells.{joined, value_parts, AreLines}
@@ -15,9 +15,7 @@ use Rattle.toml_working.specs.Inserting.{insert_in}
 use Rattle.toml_working.specs.Manners.{Manner}
 use Rattle.toml_working.specs.Removing.{remove_lines}
 use Rattle.toml_layout.specs.Spacings.{Spacing, plain_spacing}
-use Rattle.toml_working.specs.RemoveStanding.{LeavesParent}
-use Rattle.toml_working.specs.Standing.{standing}
-use Rattle.toml_working.specs.Written.{HasSection}
+use Rattle.toml_working.specs.Written.{LeavesTable, HasSection}
 
 -- a keyval line: itself, what lies in its value, and its comment; to the table in which it stands lead so many steps
 abbrev pub pair_line_units : Piece → Address → ℕ → Value → Option Piece → List TextUnit
@@ -67,6 +65,6 @@ InsertUnits = (q : Address) (name : List ℕ) (v : Value) (manner : Manner) (lin
 
 -- Law: the units of the new lines are those of the old ones without those of the line.
 abbrev pub RemoveUnits : Type 0
-RemoveUnits = (p : Address) (lines : List Line) → AreLines lines → LeavesParent p (standing lines) → KeepsRules (named lines)
+RemoveUnits = (p : Address) (lines : List Line) → AreLines lines → LeavesTable lines p → KeepsRules (named lines)
     → (piece : Piece) × (base : ℕ) × (v : Value) × (comment : Option Piece) × (base < length p)
     × IsBlockTaken (units lines) (pair_line_units piece p base v comment) (units (remove_lines p lines))

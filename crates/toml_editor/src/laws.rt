@@ -42,8 +42,8 @@ pub fn inserts()
     ensures forms { InsertForms }
 {}
 
-/// After a `remove` of a value that a line has by a key that is not dotted the lines name what they named, without the value and
-/// what is in it. They keep the table rules and the bound on addresses, have the data that the edit makes, and are in the forms.
+/// After a `remove` of a value of a line, without which the table right above the value stays, the lines name what they named,
+/// without what that line names. They keep the table rules and the bound on addresses, have the data that the edit makes, and are in the forms.
 pub fn removes()
     ensures names { RemoveNames }
     ensures good { RemoveGood }
@@ -192,8 +192,8 @@ pub fn standing_inserted()
     ensures alone { HeaderIsAlone }
 {}
 
-/// The value of a key at the root is that of a line whose key is not dotted, and the lines after a `remove` of a line are what the
-/// `remove` makes of the lines, by what finds them.
+/// The value of a key at the root is that of a line without which the root stays. The lines after a `remove` of a line without which
+/// the table above its value stays are what the `remove` makes of the lines, by what finds them.
 pub fn standing_removed()
     ensures root { RootPairIsLine }
     ensures remove { RemoveStands }
@@ -217,8 +217,8 @@ pub fn written_out()
     ensures text { TextIsWritten }
 {}
 
-/// What an edit makes that changes an array or an inline table in the value of a line is one thing in a layout, of lines that are as the
-/// table rules have them: so it has one text.
+/// What an edit makes that changes an array or an inline table in the value of a line, or takes such a value out, is one thing in a layout,
+/// of lines that are as the table rules have them: so it has one text.
 pub fn one_change()
     ensures { OneChange }
 {}

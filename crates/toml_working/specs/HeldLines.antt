@@ -15,7 +15,7 @@ use Rattle.toml_layout.specs.OpenOutlines.{value}
 use Rattle.toml_layout.specs.Outlines.{ExprOutline, Header, Nothing, Pair, ValueOutline}
 use Rattle.toml_working.specs.declared.lines.Slot.{Slot}
 use Rattle.toml_working.specs.declared.working.Tree.{Tree}
-use Rattle.toml_working.specs.RemoveStanding.{LeavesParent, is_pair}
+use Rattle.toml_working.specs.RemoveStanding.{is_pair}
 use Rattle.toml_working.specs.Seeing.{steps_to}
 use Rattle.toml_working.specs.Standing.{Standing, Read, AreOrdered, has, holds, set_standing}
 use Rattle.toml_working.specs.Stands.{Stands}
@@ -78,9 +78,7 @@ ParentIsHeld = (q : Address) (last : Step) (ss : List Standing) → list_any (ha
 abbrev pub HeldIsInside : Type 0
 HeldIsInside = (p : Address) (ss : List Standing) → list_any (has_container_at p) ss ≡ true → (¬ (p ≡ [])) × (list_any (holds_inside p) ss ≡ true)
 
--- Laws: what is so held is no line's own value, of lines as the table rules have them, and a value that leaves the table above it is one.
+-- Law: what is so held is no line's own value, of lines as the table rules have them.
 abbrev pub HeldIsNoLine : Type 0
 HeldIsNoLine = (p : Address) (ss : List Standing) → AreOrdered ss → list_any (has_container_at p) ss ≡ true → list_any (is_pair p) ss ≡ true → ⊥
 
-abbrev pub LeavingIsPair : Type 0
-LeavingIsPair = (p : Address) (ss : List Standing) → LeavesParent p ss → list_any (is_pair p) ss ≡ true

@@ -160,14 +160,6 @@ impl<'t> Line<'t> {
         Ok(())
     }
 
-    /// Its pieces, if it is opened.
-    pub(crate) fn opened(&mut self) -> Option<&mut OpenLine<'t>> {
-        match &mut self.body {
-            Body::Open(line) => Some(line),
-            Body::Kept(_) => None,
-        }
-    }
-
     /// Gives it another newline.
     pub(crate) fn end_in(
         &mut self,

@@ -1,18 +1,19 @@
 //! `remove`: elements and pairs in a value, and lines.
-ghost use Rattle.std.specs.Prelude.{◌≡◌, IfOk, OnOk, true};
+ghost use Rattle.std.specs.Prelude.{◌≡◌, ◌∷◌, [], IfOk, OnOk};
 ghost use Rattle.toml_working.specs.HeldLines.{TakesFromValue};
 ghost use Rattle.toml_working.specs.InValues.{IsParent};
 ghost use Rattle.std.specs.List.{list_any};
+ghost use Rattle.toml_layout.specs.KnownLines.{lines_known};
 ghost use Rattle.toml_working.specs.RemoveStanding.{makes_apart};
-ghost use Rattle.toml_working.specs.declared.lines.Line.{Line as WorkingLine};
-ghost use Rattle.toml_working.specs.RemovingIn.{KeepsParent, LeavesBehind, LeavesLines, LeavesOf, LeavesSlot, LeavesSlots, RemovesLines, SlotTellsMade, TellsMade};
+ghost use Rattle.toml_working.specs.RemovingIn.{LeavesBehind, LeavesLines, LeavesSlot, LeavesSlots, RemovesLines, SlotTellsMade, TakesOutLine, TellsMade, TellsStays, lines_of};
 ghost use Rattle.toml_working.specs.Seeing.{IsSoughtAt};
-ghost use Rattle.toml_working.specs.declared.lines.Sought.TheVariants.{Holder};
 ghost use Rattle.toml_working.specs.Starting.{read_of};
 ghost use Rattle.toml_working.specs.Stands.{KeepsRest};
+ghost use Rattle.toml_working.specs.declared.lines.Line.{Line as WorkingLine};
+ghost use Rattle.toml_working.specs.declared.lines.Sought.TheVariants.{Holder};
 
 use crate::lines::{Line, Slot};
-use crate::steps::{is_element, names_in};
+use crate::steps::is_element;
 use crate::working::{Before, Position, Tree};
 use std::alloc::{AllocError, Global};
 use std::mem;
@@ -93,8 +94,7 @@ impl<'x> Tree<'x> {
         at: &Address,
     ) -> Result<(), AllocError>
         ensures rest { OnOk result (KeepsRest self.old self.new) }
-        ensures slots { let old = self.old.slots.items in
-            OnOk result (KeepsParent at.now (read_of before.entry) old place → LeavesSlots at.now before.entry.units.now place.slot old self.new.slots.items) }
+        ensures line { OnOk result (TakesOutLine at.now (read_of before.entry) place self.old self.new) }
     {
         let mut parent = self.parent_of_line(before, at, place)?;
         remove_in(
@@ -114,11 +114,12 @@ impl<'x> Tree<'x> {
         at: &Address,
         place: Position,
     ) -> Result<Parent, AllocError>
-        ensures { let read = read_of before.entry in
-            IfOk result (λ parent. KeepsParent at.now read self.now.slots.items place → parent.stays ≡ true) }
+        ensures address { IfOk result (λ parent. IsParent at.now parent.address) }
+        ensures stays { let read = read_of before.entry in
+            IfOk result (λ parent. TellsStays at.now parent.address read self.now.slots.items place parent.stays) }
     {
         let address = parent_of(self.alloc(), at)?;
-        let is_dotted = self.base(before, place).saturating_add(1) < at.steps().len();
+        let is_dotted = self.base(before, place) < address.steps().len();
         let stays = !is_dotted || self.is_made_around(before, place.slot, &address, at);
         Ok(Parent { address, stays })
     }
@@ -228,7 +229,8 @@ impl<'t> Slot<'t> {
         at: &Address,
         parent: &mut Parent,
     ) -> Result<(), AllocError>
-        ensures { OnOk result (parent.old.stays ≡ true → LeavesSlot at.now before.entry.units.now self.old self.new) }
+        ensures { let old = parent.old in
+            OnOk result (LeavesSlot texts.entry (read_of before.entry) at.now old.address old.stays self.old self.new) }
     {
         self.open(texts.alloc, before.units)?;
         match self {
@@ -284,8 +286,8 @@ fn remove_in<'t>(
     at: &Address,
     parent: &mut Parent,
 ) -> Result<(), AllocError>
-    ensures { let units = before.entry.units.now in
-        OnOk result (parent.old.stays ≡ true → LeavesSlots at.now units slot slots.old.items slots.new.items) }
+    ensures { let old = parent.old in
+        OnOk result (LeavesSlots texts.entry (read_of before.entry) at.now old.address old.stays slot slots.old.items slots.new.items) }
 {
     match slots.get_mut(slot) {
         Some(lines) => lines.remove(texts, before, at, parent),
@@ -301,7 +303,8 @@ fn remove_from<'t>(
     at: &Address,
     parent: &mut Parent,
 ) -> Result<(), AllocError>
-    ensures { OnOk result (parent.old.stays ≡ true → LeavesLines at.now lines.old.items lines.new.items) }
+    ensures { let old = parent.old in let new = parent.new in
+        OnOk result (LeavesLines texts.entry (lines_known known.now) at.now old.address old.stays new.stays lines.old.items lines.new.items) }
 {
     let old = mem::replace(lines, Vec::new(texts.alloc));
     for line in old {
@@ -320,8 +323,9 @@ fn left_of<'t>(
     at: &Address,
     parent: &mut Parent,
 ) -> Result<Option<Line<'t>>, AllocError>
-    ensures parent { OnOk result (parent.old.stays ≡ true → parent.new.stays ≡ true) }
-    ensures left { IfOk result (λ left. parent.old.stays ≡ true → LeavesOf at.now line.entry left) }
+    ensures parent { parent.new.address ≡ parent.old.address }
+    ensures left { let old = parent.old in let new = parent.new in
+        IfOk result (λ left. LeavesLines texts.entry (lines_known known.now) at.now old.address old.stays new.stays (line.entry ∷ []) (lines_of left)) }
 {
     if line.seen().is_below(at) {
         removed(texts, known, line, parent)
@@ -337,8 +341,9 @@ fn removed<'t>(
     line: Line<'t>,
     parent: &mut Parent,
 ) -> Result<Option<Line<'t>>, AllocError>
-    ensures parent { OnOk result (parent.old.stays ≡ true → parent.new.stays ≡ true) }
-    ensures left { IfOk result (λ left. parent.old.stays ≡ true → LeavesBehind line.entry left) }
+    ensures parent { parent.new.address ≡ parent.old.address }
+    ensures left { let old = parent.old in let new = parent.new in
+        IfOk result (λ left. LeavesBehind texts.entry (lines_known known.now) old.address old.stays new.stays line.entry left) }
 {
     if !parent.stays && line.seen().makes(&parent.address) {
         parent.stays = true;
@@ -350,27 +355,6 @@ fn removed<'t>(
         return Ok(Some(Line::empty(texts.alloc)?));
     }
     Ok(None)
-}
-
-impl<'t> Line<'t> {
-    /// Makes it stand for the parent: its key's front up to it as an empty table, or as a header.
-    fn stand_for(
-        &mut self,
-        texts: Texts<'t>,
-        known: &[KnownLine<'t>],
-        parent: &Address,
-    ) -> Result<(), AllocError> {
-        let parts = match self.base {
-            Some(base) => parent.steps().len().saturating_sub(base),
-            None => names_in(parent.steps()),
-        };
-        self.open(texts, known)?;
-        if let Some(open) = self.opened() {
-            open.empty(texts, parts)?;
-        }
-        self.address = Some(parent.copy(texts.alloc)?);
-        Ok(())
-    }
 }
 
 /// The address without its last step.

@@ -4,7 +4,7 @@ ghost use Rattle.toml_names.specs.model.Addresses.{lent};
 ghost use Rattle.toml_working.specs.InsertStanding.{is_bare};
 ghost use Rattle.toml_working.specs.LookingUp.{last_pair_from};
 ghost use Rattle.toml_working.specs.Placing.{is_header, pair_at};
-ghost use Rattle.toml_working.specs.RemoveStanding.{makes, makes_apart};
+ghost use Rattle.toml_working.specs.RemoveStanding.{makes, makes_apart, parts_to};
 ghost use Rattle.toml_working.specs.RenameStanding.{part_number};
 ghost use Rattle.toml_working.specs.Seeing.{heads, heads_below, is_dotted, is_sought, seen, steps_to};
 ghost use Rattle.toml_working.specs.Standing.{leads_to, lies_below};
@@ -144,6 +144,16 @@ impl Seen<'_> {
                 self.is_header() && index > element && is_same_way(array, other)
             }
             _ => false,
+        }
+    }
+
+    /// How many parts of its key lead to the address.
+    pub(crate) fn parts_to(self, at: &Address) -> usize
+        ensures { result ≡ parts_to at.now self.entry.base }
+    {
+        match self.base {
+            Some(base) => at.steps().len().saturating_sub(base),
+            None => names_in(at.steps()),
         }
     }
 

@@ -21,9 +21,7 @@ use Rattle.toml_editor.specs.Blocks.{IsPut, value_block, named_plain}
 use Rattle.toml_editor.specs.RemoveLaws.{RemoveForms, RemoveGood, RemoveData}
 use Rattle.toml_working.specs.Lines.{lines_from}
 use Rattle.toml_working.specs.Removing.{remove_line, remove_lines, left_behind, empty_line}
-use Rattle.toml_working.specs.RemoveStanding.{LeavesParent}
-use Rattle.toml_working.specs.Standing.{standing}
-use Rattle.toml_working.proofs.Proved.{leaving_is_pair}
+use Rattle.toml_working.specs.Written.{LeavesTable}
 use Rattle.toml_editor.proofs.written.BlockFacts.{each_old, has_old, has_new}
 use Rattle.toml_editor.proofs.written.Clear.{IsUnder}
 use Rattle.toml_editor.proofs.Each.{each_append, each_back, each_weaker}
@@ -75,7 +73,7 @@ remove_forms p lines is = lines_formed p lines (root ∷ []) 0 is
 
 -- ---- rules
 
-remove_rules : (p : Address) (lines : List Line) → LeavesParent p (standing lines) → KeepsRules (named lines) → KeepsRules (named (remove_lines p lines))
+remove_rules : (p : Address) (lines : List Line) → LeavesTable lines p → KeepsRules (named lines) → KeepsRules (named (remove_lines p lines))
 remove_rules p lines there keeps =
     let (s, key, v, at, put) = remove_names p lines there keeps in
     (rules_plain (remove_lines p lines)).1
@@ -110,7 +108,7 @@ apart_rest p s key v old new put alone =
     (each_weaker (Alone (value_named 0 Valued p v)) (Apart p) (λ x h here. true≢false ((h (sym here)).0)) put.back (each_back (Alone (value_named 0 Valued p v)) (inside 0 p v) put.back behind)))
 
 -- so nothing that is left is named at it or below it
-pub left_clear : (p : Address) (lines : List Line) → LeavesParent p (standing lines) → KeepsRules (named lines) → EachIs (λ m. IsClear p m.address) (named (remove_lines p lines))
+pub left_clear : (p : Address) (lines : List Line) → LeavesTable lines p → KeepsRules (named lines) → EachIs (λ m. IsClear p m.address) (named (remove_lines p lines))
 left_clear p lines there keeps =
     let lines' = remove_lines p lines in
     let (s, key, v, at, put) = remove_names p lines there keeps in
@@ -130,7 +128,7 @@ pub removed_below : (table : Address) (name : List ℕ) (a : Address) → carry 
 removed_below table name a = ap (λ o. removing o a) (parted_at_last table (Name name)) ∙ carried_below table (Name name ∷ []) a nowhere
 
 -- what the line names above its value is there without it
-tables_stay : (table : Address) (name : List ℕ) (lines : List Line) (after : Kinds) → LeavesParent (child table name) (standing lines)
+tables_stay : (table : Address) (name : List ℕ) (lines : List Line) (after : Kinds) → LeavesTable lines (child table name)
     → (keeps : KeepsRules (named lines)) → IsDataOf (named (remove_lines (child table name) lines)) after
     → (b : Address) (k : Kind) → (IsFact (named lines) b k) → IsAbove b (child table name) → after b ≡ Some k
 tables_stay table name lines after there keeps is' b k fact above =
@@ -143,7 +141,7 @@ tables_stay table name lines after there keeps is' b k fact above =
     (has_plain lines' (F p v b other) (has_of_any _ (named lines') ((is' b other).0 stays))) in
     stays ∙ ap Some (lines_have_one_kind lines keeps b other k (any_of_has _ (named lines) (plain_has lines (F p v b other) again)) fact)
 
-data_removed : (profile : Profile) (table : Address) (name : List ℕ) (lines : List Line) (old after : Kinds) → LeavesParent (child table name) (standing lines)
+data_removed : (profile : Profile) (table : Address) (name : List ℕ) (lines : List Line) (old after : Kinds) → LeavesTable lines (child table name)
     → KeepsRules (named lines) → IsDataOf (named lines) old → IsDataOf (named (remove_lines (child table name) lines)) after
     → IsAfter profile (remove (child table name)) old after
 data_removed profile table name lines old after there keeps is is' =
@@ -177,6 +175,6 @@ data_removed profile table name lines old after there keeps is is' =
 
 pub remove_data : RemoveData
 remove_data profile p lines old after there keeps is is' =
-    let (table, name, at) = line_parts p lines (leaving_is_pair p (standing lines) there) in
+    let (table, name, at) = line_parts p lines there.0 in
     subst (λ q. IsAfter profile (remove q) old after) (sym at)
-    (data_removed profile table name lines old after (subst (λ q. LeavesParent q (standing lines)) at there) keeps is (subst (λ q. IsDataOf (named (remove_lines q lines)) after) at is'))
+    (data_removed profile table name lines old after (subst (λ q. LeavesTable lines q) at there) keeps is (subst (λ q. IsDataOf (named (remove_lines q lines)) after) at is'))

@@ -20,7 +20,6 @@ use Rattle.toml_working.specs.Lines.{lines_from}
 use Rattle.toml_working.specs.Standing.{line_stands, standing, standing_from}
 use Rattle.toml_working.specs.Removing.{remove_line, remove_lines, left_behind, empty_line}
 use Rattle.toml_working.specs.RemoveStanding.{is_pair}
-use Rattle.toml_working.proofs.Proved.{leaving_is_pair}
 use Rattle.toml_editor.proofs.written.Alike.{alike_self, alike_pair}
 use Rattle.toml_editor.proofs.written.Behind.{put_behind, put_here}
 use Rattle.toml_editor.proofs.Each.{each_front, each_back, each_weaker}
@@ -275,7 +274,7 @@ line_parts p lines there = lines_member p lines (root ∷ []) 0 there
 
 pub remove_names : RemoveNames
 remove_names p lines there keeps =
-    let (s, key, v, at, put) = (taken_out p lines (leaving_is_pair p (standing lines) there) keeps).0 in (
+    let (s, key, v, at, put) = (taken_out p lines there.0 keeps).0 in (
       s,
       key,
       v,
@@ -285,4 +284,4 @@ remove_names p lines there keeps =
     )
 
 pub remove_keeps_lines : RemoveKeepsLines
-remove_keeps_lines p lines there keeps = (taken_out p lines (leaving_is_pair p (standing lines) there) keeps).1
+remove_keeps_lines p lines there keeps = (taken_out p lines there.0 keeps).1

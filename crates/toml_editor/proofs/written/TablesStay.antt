@@ -1,34 +1,38 @@
 -- Where the table right above a value stays without the line of the value, so do the tables that the line's key makes.
-use Rattle.std.proofs.Common.{◌≡◌, ◌∙◌, ◌⊎◌, inl, inr, ℕ, ◌+◌, ◌==◌, Bool, true, false, cond, ◌&&◌, ◌||◌, Option, Some, None, List, [], ◌∷◌, ◌++◌, map, length, length-append, refl, sym, ap, ap₂, subst, append_assoc, append-nil, true≢false, arith}
+use Rattle.std.proofs.Common.{◌≡◌, ◌∙◌, ◌⊎◌, inl, inr, ℕ, suc, ◌+◌, ◌-◌, ◌==◌, ◌<◌, ◌≤◌, Bool, true, false, cond, ◌&&◌, ◌||◌, Option, Some, None, List, [], ◌∷◌, ◌++◌, map, length, length-append, take, refl, sym, ap, ap₂, subst, append_assoc, append-nil, true≢false, arith}
 use Rattle.std.specs.Bool.{nat_lt}
 use Rattle.std.specs.List.{list_any}
-use Rattle.std.specs.Prelude.{not, IfSome, IsSome}
+use Rattle.std.specs.Prelude.{flat_map, not, IfSome, IsSome}
 use Rattle.std.proofs.lemmas.Bool.{and_parts, eqb-true}
+use Rattle.std.proofs.lemmas.Bool.Decides.{nat_tests}
+use Rattle.std.proofs.lemmas.List.{take-append-le, take_all}
+use Rattle.std.proofs.lemmas.Option.{same_Some}
 use Rattle.std.proofs.lemmas.List.Folds.{list_any-append}
 use Rattle.toml_tree.specs.Spells.{EachIs}
-use Rattle.toml_tree.specs.Tree.{Line}
+use Rattle.toml_tree.specs.Tree.{Expr, BlankLine, KeyValLine, TableLine, ArrayTableLine, Line}
 use Rattle.toml_names.specs.declared.model.address.Step.{Step}
 use Rattle.toml_names.specs.declared.model.address.Step.TheVariants.{Name}
 use Rattle.toml_names.specs.model.Addresses.{Address, IsAbove, below, child, is_above, same_address}
 use Rattle.toml_names.specs.model.Data.{Kinds, IsClosed, IsDataOf}
-use Rattle.toml_names.specs.mentions.Keys.{Key}
-use Rattle.toml_names.specs.mentions.Mentions.{Kind, Named, a_table, fronts, named, root}
+use Rattle.toml_names.specs.mentions.Keys.{Key, key_names, part_name, rest_names}
+use Rattle.toml_names.specs.mentions.Mentions.{Kind, Named, a_table, fronts, named, root, section}
 use Rattle.toml_names.specs.mentions.Rules.{KeepsRules}
+use Rattle.toml_names.specs.reader.Names.{own_address}
 use Rattle.toml_names.proofs.Proved.{above_is_above, lines_are_closed, own_address_has_fact, same_step-self}
-use Rattle.toml_edits.specs.Carry.{parted}
-use Rattle.toml_edits.proofs.Proved.{parted_at_last}
+use Rattle.toml_units.specs.Units.{line_base}
 use Rattle.toml_layout.specs.Beginnings.{begins}
 use Rattle.toml_working.specs.Removing.{remove_lines}
-use Rattle.toml_working.specs.RemoveStanding.{LeavesParent, is_pair, is_undotted_at, is_undotted_pair, is_value_at, left_standing, makes, makes_beside, remove_standing}
+use Rattle.toml_working.specs.RemoveStanding.{above, is_pair, is_undotted_at, is_undotted_pair, is_value_at, left_standing, makes, makes_beside, remove_one}
+use Rattle.toml_working.specs.Written.{LeavesTable}
 use Rattle.toml_working.specs.Seeing.{heads, heads_below, is_dotted}
 use Rattle.toml_working.specs.Sections.{stands_in}
-use Rattle.toml_working.specs.Standing.{Standing, is_below, lies_below, standing}
+use Rattle.toml_working.specs.Standing.{Standing, is_below, lies_below, line_stands, standing}
 use Rattle.toml_editor.proofs.written.Clear.{IsUnder, below-cons, same_is}
 use Rattle.toml_editor.proofs.written.DocumentSections.{begins_longer, document_sectioned, headed_at, line_of}
 use Rattle.toml_editor.proofs.written.Members.{above_member}
-use Rattle.toml_editor.proofs.written.OneSection.{Heads, among_of, heads_within, same_begin, section_over, sectioned_back}
+use Rattle.toml_editor.proofs.written.OneSection.{AreSectioned, Heads, among_of, heads_within, same_begin, section_over, sectioned_back}
 use Rattle.toml_editor.proofs.written.Plain.{plain_is}
-use Rattle.toml_editor.proofs.written.Pairwise.{any_of_has}
+use Rattle.toml_editor.proofs.written.Pairwise.{Has, any_of_has}
 use Rattle.toml_editor.proofs.written.RemoveStanding.{remove_stands}
 use Rattle.toml_editor.proofs.written.StandingOrder.{begins_is}
 use Rattle.toml_editor.proofs.written.Unplain.{plain_has}
@@ -59,17 +63,18 @@ module _ (p q : Address) where
   gone_makes_none : (s : Standing) → is_pair p s ≡ true → makes_beside q p s ≡ false
   gone_makes_none s is = ap (λ b. makes q s.base s.address && not b) (value_below p s.base s.address is) ∙ and_false (makes q s.base s.address)
 
-  pub makers_stay : (ss : List Standing) → list_any (makes_beside q p) ss ≡ true → list_any (makes_beside q p) (remove_standing p ss) ≡ true
+  pub makers_stay : (ss : List Standing) → list_any (makes_beside q p) ss ≡ true
+      → list_any (makes_beside q p) (flat_map (remove_one p true) ss) ≡ true
   makers_stay [] there = there
   makers_stay (s ∷ ss) there = by (is_pair p s) refl (makers_stay ss)
     where
       later : Bool
-      later = list_any (makes_beside q p) (remove_standing p ss)
+      later = list_any (makes_beside q p) (flat_map (remove_one p true) ss)
 
       by : (b : Bool) → is_pair p s ≡ b → (list_any (makes_beside q p) ss ≡ true → later ≡ true)
-          → list_any (makes_beside q p) (cond b (left_standing s) (s ∷ []) ++ remove_standing p ss) ≡ true
+          → list_any (makes_beside q p) (cond b (left_standing s) (s ∷ []) ++ flat_map (remove_one p true) ss) ≡ true
       by true is more =
-          list_any-append (makes_beside q p) (left_standing s) (remove_standing p ss)
+          list_any-append (makes_beside q p) (left_standing s) (flat_map (remove_one p true) ss)
           ∙ ap (λ b. list_any (makes_beside q p) (left_standing s) || b)
           (more (ap (λ b. b || list_any (makes_beside q p) ss) (sym (gone_makes_none s is)) ∙ there))
           ∙ or_true (list_any (makes_beside q p) (left_standing s))
@@ -117,10 +122,11 @@ module _ (p q : Address) where
 
 -- ---- the table right above a value
 
--- it is one
-same_parent : (q r : Address) (s t : Step) → q ++ s ∷ [] ≡ r ++ t ∷ [] → q ≡ r
-same_parent q r s t is =
-    let e : Some (q, s) ≡ Some (r, t) = sym (parted_at_last q s) ∙ ap parted is ∙ parted_at_last r t in cc
+above_is : (q : Address) (last : Step) → above (q ++ last ∷ []) ≡ q
+above_is q last =
+    let long : length (q ++ last ∷ []) ≡ length q + 1 = length-append q (last ∷ []) in
+    let less : length (q ++ last ∷ []) - 1 ≡ length q = omega (arith, long) in
+    ap (λ n. take n (q ++ last ∷ [])) less ∙ take-append-le (length q) q (last ∷ []) (omega arith) ∙ take_all (length q) q (omega arith)
 
 not_over : (q : Address) (last : Step) → begins (q ++ last ∷ []) q ≡ false
 not_over [] last = refl
@@ -140,36 +146,77 @@ any_at : (test : Standing → Bool) (front : List Standing) (s : Standing) (back
 any_at test [] s back is = ap (λ b. b || list_any test back) is
 any_at test (x ∷ front) s back is = ap (λ b. test x || b) (any_at test front s back is) ∙ or_true (test x)
 
+-- a key has a part
+base_low : (xs : List Named) (l : Line) (n : ℕ) (a : Address) → (line_stands xs l).base ≡ Some n → (line_stands xs l).address ≡ Some a → n < length a
+base_low xs l n a base own = by l.expr refl
+  where
+    by : (e : Expr) → l.expr ≡ e → n < length a
+    by (BlankLine b) is = none (sym (ap (line_base xs) is) ∙ base)
+      where
+        none : None ≡ Some n → n < length a
+        none e = cc
+    by (TableLine ws h tail) is = none (sym (ap (line_base xs) is) ∙ base)
+      where
+        none : None ≡ Some n → n < length a
+        none e = cc
+    by (ArrayTableLine ws h tail) is = none (sym (ap (line_base xs) is) ∙ base)
+      where
+        none : None ≡ Some n → n < length a
+        none e = cc
+    by (KeyValLine ws pair tail) is =
+        let n_is : length (section xs) ≡ n = same_Some _ n (sym (ap (line_base xs) is) ∙ base) in
+        let a_is : below (section xs) (key_names pair.assign.key) ≡ a = same_Some _ a (sym (ap (own_address xs) is) ∙ own) in
+        let names = map Name (rest_names pair.assign.key.rest) in
+        let long : length (section xs ++ Name (part_name pair.assign.key.first) ∷ names) ≡ length (section xs) + suc (length names) =
+        length-append (section xs) (Name (part_name pair.assign.key.first) ∷ names) in
+        let whole : length (section xs ++ Name (part_name pair.assign.key.first) ∷ names) ≡ length a = ap length a_is in
+        omega (arith, n_is, long, whole)
+
 -- the section of a line whose key is not dotted is the table right above its value
 own_section : (q at : Address) (last : Step) (base : Option ℕ) (own : Option Address) → is_undotted_at (q ++ last ∷ []) base own ≡ true
-    → ((n : ℕ) → base ≡ Some n → stands_in at base own ≡ true) → at ≡ q
-own_section q at last None own is stands = cc
-own_section q at last (Some n) None is stands = cc
-own_section q at last (Some n) (Some a) is stands =
-    let (same, long) = and_parts (same_address a (q ++ last ∷ [])) (length (q ++ last ∷ []) == n + 1) is in
-    let (few, begun) = and_parts (n == length at) (begins at a) (stands n refl) in
-    let one : length (q ++ last ∷ []) ≡ length q + 1 = length-append q (last ∷ []) in
-    let two : length (q ++ last ∷ []) ≡ n + 1 = eqb-true _ _ long in
-    let three : n ≡ length at = eqb-true n (length at) few in
-    same_begin at q (q ++ last ∷ []) (subst (λ x. begins at x ≡ true) (same_is a (q ++ last ∷ []) same) begun) (begins_longer q (last ∷ []))
-    (omega (arith, one, two, three))
+    → ((n : ℕ) → base ≡ Some n → stands_in at base own ≡ true) → ((n : ℕ) (a : Address) → base ≡ Some n → own ≡ Some a → n < length a) → at ≡ q
+own_section q at last None own is stands low = cc
+own_section q at last (Some n) None is stands low = cc
+own_section q at last (Some n) (Some a) is stands low =
+    let p = q ++ last ∷ [] in
+    let (same, few) = and_parts (same_address a p) (not (nat_lt n (length p - 1))) is in
+    let (counts, begun) = and_parts (n == length at) (begins at a) (stands n refl) in
+    let one : length p ≡ length q + 1 = length-append q (last ∷ []) in
+    let two : n < length p = subst (λ x. n < length x) (same_is a p same) (low n a refl refl) in
+    let three : n ≡ length at = eqb-true n (length at) counts in
+    let four : length p - 1 ≤ n = not_less n (length p - 1) few in
+    same_begin at q p (subst (λ x. begins at x ≡ true) (same_is a p same) begun) (begins_longer q (last ∷ []))
+    (omega (arith, one, two, three, four))
+  where
+    not_less : (x y : ℕ) → not (nat_lt x y) ≡ true → y ≤ x
+    not_less x y h = let e : y ≤ x = grind (arith, nat_tests, h) in e
 
 -- where the table stays it is the root, or another line makes it
-parent_made : (q : Address) (last : Step) (lines : List Line) → LeavesParent (q ++ last ∷ []) (standing lines)
+parent_made : (q : Address) (last : Step) (lines : List Line) → LeavesTable lines (q ++ last ∷ [])
     → (q ≡ []) ⊎ (list_any (makes_beside q (q ++ last ∷ [])) (standing lines) ≡ true)
-parent_made q last lines (inr (pair, r, other, is, made)) =
-    inr (subst (λ x. list_any (makes_beside x (q ++ last ∷ [])) (standing lines) ≡ true) (same_parent r q other last (sym is)) made)
-parent_made q last lines (inl there) =
-    let found = among_of (is_undotted_pair (q ++ last ∷ [])) (standing lines) there in
-    let sectioned = sectioned_back found.front (found.line ∷ found.back) [] (subst (λ ss. _) found.is (document_sectioned lines)) in
-    let is_section = own_section q (section_over [] found.front) last found.line.base found.line.address found.holds (λ n is. sectioned.0 (n, is)) in
-    elim (heads_within found.front [] q is_section) [
-      | inl root_is ↦ inl (sym root_is)
-      | inr header ↦ inr
-          (ap (list_any (makes_beside q (q ++ last ∷ []))) (found.is ∙ ap (λ f. f ++ found.line ∷ found.back) header.is
-          ∙ append_assoc header.front (header.line ∷ header.back) (found.line ∷ found.back))
-          ∙ any_at (makes_beside q (q ++ last ∷ [])) header.front header.line (header.back ++ found.line ∷ found.back) (header_makes q last header.line header.holds))
+parent_made q last lines there =
+    let p = q ++ last ∷ [] in
+    elim (either (list_any (is_undotted_pair p) (standing lines)) (list_any (makes_beside (above p) p) (standing lines)) there.1) [
+      | inr made ↦ inr (subst (λ x. list_any (makes_beside x p) (standing lines) ≡ true) (above_is q last) made)
+      | inl undotted ↦ headed undotted
     ]
+  where
+    headed : list_any (is_undotted_pair (q ++ last ∷ [])) (standing lines) ≡ true
+        → (q ≡ []) ⊎ (list_any (makes_beside q (q ++ last ∷ [])) (standing lines) ≡ true)
+    headed undotted =
+        let p = q ++ last ∷ [] in
+        let found = among_of (is_undotted_pair p) (standing lines) undotted in
+        let at = line_of found.front lines [] found.line found.back found.is in
+        let low : (n : ℕ) (a : Address) → found.line.base ≡ Some n → found.line.address ≡ Some a → n < length a = λ n a base own. base_low (named at.first) at.line n a (ap (λ (t : Standing). t.base) (sym at.is) ∙ base) (ap (λ (t : Standing). t.address) (sym at.is) ∙ own) in
+        let sectioned = sectioned_back found.front (found.line ∷ found.back) [] (subst (AreSectioned []) found.is (document_sectioned lines)) in
+        let is_section = own_section q (section_over [] found.front) last found.line.base found.line.address found.holds (λ n is. sectioned.0 (n, is)) low in
+        elim (heads_within found.front [] q is_section) [
+          | inl root_is ↦ inl (sym root_is)
+          | inr header ↦ inr
+              (ap (list_any (makes_beside q p)) (found.is ∙ ap (λ f. f ++ found.line ∷ found.back) header.is
+              ∙ append_assoc header.front (header.line ∷ header.back) (found.line ∷ found.back))
+              ∙ any_at (makes_beside q p) header.front header.line (header.back ++ found.line ∷ found.back) (header_makes q last header.line header.holds))
+        ]
 
 -- ---- all above it
 
@@ -187,10 +234,10 @@ stands_up kinds closed x r some = by (kinds x) refl
 
 root_stands : (lines : List Line) (kinds : Kinds) → IsDataOf (named lines) kinds → kinds [] ≡ Some a_table
 root_stands lines kinds is =
-    (is [] a_table).1 (any_of_has _ (named lines) (plain_has lines (λ m. (m.address ≡ []) × (m.kind ≡ a_table)) (subst _ (sym (plain_is lines)) (inl (refl, refl)))))
+    (is [] a_table).1 (any_of_has _ (named lines) (plain_has lines (λ m. (m.address ≡ []) × (m.kind ≡ a_table)) (subst (Has (λ m. (m.address ≡ []) × (m.kind ≡ a_table))) (sym (plain_is lines)) (inl (refl, refl)))))
 
 -- what stands above the value still does
-pub above_stays : (q : Address) (name : List ℕ) (lines : List Line) (after : Kinds) → LeavesParent (child q name) (standing lines)
+pub above_stays : (q : Address) (name : List ℕ) (lines : List Line) (after : Kinds) → LeavesTable lines (child q name)
     → KeepsRules (named (remove_lines (child q name) lines)) → IsDataOf (named (remove_lines (child q name) lines)) after
     → (x : Address) → IsAbove x (child q name) → (k : Kind) × (after x ≡ Some k)
 above_stays q name lines after leaves keeps is x above =
@@ -210,7 +257,8 @@ above_stays q name lines after leaves keeps is x above =
     by (inl root_is) r q_is =
         (a_table, ap after (none_above x r (sym root_is ∙ q_is)) ∙ root_stands (remove_lines (child q name) lines) after is)
     by (inr made) r q_is =
-        let stays = ap (list_any (makes_beside q (child q name))) (remove_stands (child q name) lines) ∙ makers_stay (child q name) q (standing lines) made in
+        let standing_is = remove_stands (child q name) lines leaves ∙ ap (λ b. flat_map (remove_one (child q name) b) (standing lines)) leaves.1 in
+        let stays = ap (list_any (makes_beside q (child q name))) standing_is ∙ makers_stay (child q name) q (standing lines) made in
         let (down, some) = made_has_fact (child q name) q (remove_lines (child q name) lines) after is stays in
         stands_up after closed x (r ++ down) (subst (λ a. IsSome (after a)) (ap (λ a. a ++ down) q_is ∙ append_assoc x r down) some)
 

@@ -13,9 +13,7 @@ use Rattle.toml_working.specs.Removing.{remove_line, left_behind, empty_line, re
 use Rattle.toml_editor.specs.UnitBlocks.{IsBlockTaken, pair_line_units, left_of, RemoveUnits}
 use Rattle.std.specs.Prelude.{slice_get}
 use Rattle.toml_names.specs.mentions.Rules.{KeepsRules}
-use Rattle.toml_working.specs.RemoveStanding.{LeavesParent}
-use Rattle.toml_working.specs.Standing.{standing}
-use Rattle.toml_working.proofs.Proved.{leaving_is_pair}
+use Rattle.toml_working.specs.Written.{LeavesTable}
 use Rattle.toml_editor.proofs.written.WayZip.{lines_in}
 use Rattle.toml_editor.proofs.written.WayFits.{newlines}
 use Rattle.toml_editor.proofs.written.WayBlock.{lines_append}
@@ -137,10 +135,10 @@ module _ (p : Address) where
             ∙ ap₂ (λ r k. slice_get (newlines r) k) (sym (ap₂ (λ x y. x ++ y) goes.gone same)) (let e : a ≡ 0 + a = omega arith in e);
       }
 
-  pub lines_taken : (lines : List Line) → AreLines lines → LeavesParent p (standing lines) → KeepsRules (named lines)
+  pub lines_taken : (lines : List Line) → AreLines lines → LeavesTable lines p → KeepsRules (named lines)
       → AreTaken (units lines) (units (remove_lines p lines)) (newlines lines) (newlines (remove_lines p lines))
   lines_taken lines is there keeps =
-      by_document p Taken behind_one at_one lines (leaving_is_pair p (standing lines) there) keeps (ended lines is)
+      by_document p Taken behind_one at_one lines there.0 keeps (ended lines is)
 
 pub remove_units : RemoveUnits
 remove_units p lines is there keeps =

@@ -27,8 +27,7 @@ use Rattle.toml_edits.proofs.Proved.{parted_at_last, sides_are_right}
 use Rattle.toml_editor.specs.ChangedUnits.{is_inner, LiesInValue}
 use Rattle.toml_working.specs.Removing.{remove_lines}
 use Rattle.toml_editor.specs.UnitBlocks.{pair_line_units, left_of, BeginWithLine}
-use Rattle.toml_working.specs.RemoveStanding.{LeavesParent}
-use Rattle.toml_working.specs.Standing.{standing}
+use Rattle.toml_working.specs.Written.{LeavesTable}
 use Rattle.toml_editor.proofs.Each.{each_front, each_back}
 use Rattle.toml_editor.proofs.written.Members.{above_member}
 use Rattle.toml_editor.proofs.written.RemoveKept.{removed_below}
@@ -389,6 +388,6 @@ module _ (table : Address) (name : List ℕ) (lines : List Line) where
           (same_fits table name (newlines lines) (newlines edited) (u ∷ us) far line (n + 1) n (inr (subst BeginWithLine (sym is) h.taken.next))
           (λ x low. inl (ap (slice_get (newlines lines)) (let e : (n + 1) + x ≡ n + suc x = omega arith in e) ∙ h.back_ends x (subst (λ l. x < lines_in l) is low))))
 
-  pub remove_way : AreLines lines → LeavesParent gone (standing lines) → KeepsRules (named lines)
+  pub remove_way : AreLines lines → LeavesTable lines gone → KeepsRules (named lines)
       → EachIs (IsFar table name (newlines lines) (newlines edited)) (units edited) → HasWay (remove gone ∷ []) ([] ∷ []) lines edited
   remove_way is there keeps far = way_by (lines_taken gone lines is there keeps) far
