@@ -181,7 +181,7 @@ pub not_last : (profile : Profile) (read : Read) (seen : Kinds) (c : Change) (ol
     → done ≡ false → TakesLastElement c seen → IsNeitherOn profile read c old
 not_last profile read seen (remove p) old new done writes is (q, at_index, some, only) text kinds now at none is_after one =
     elim (one at.good.tree at.good.spelled) [
-      | inl h ↦ let (table, name, at_name) = line_parts p at.good.tree.lines h.0 in no_element q table 0 name (sym at_index ∙ at_name)
+      | inl h ↦ let (table, name, at_name) = line_parts p at.good.tree.lines h in no_element q table 0 name (sym at_index ∙ at_name)
       | inr h ↦ true≢false (sym (taken_is_found profile read p old new done writes text kinds at h) ∙ is)
     ]
 not_last profile read seen (set p value) old new done writes is takes text kinds now at none is_after one = takes

@@ -13,9 +13,11 @@ use Rattle.toml_units.specs.Units.{TextUnit, inside, comment_units, units}
 use Rattle.toml_layout.specs.declared.layout.Layout.TheVariants as layouts
 use Rattle.toml_working.specs.Inserting.{insert_in}
 use Rattle.toml_working.specs.Manners.{Manner}
-use Rattle.toml_working.specs.Removing.{remove_lines}
+use Rattle.toml_working.specs.Removing.{empty_table, remove_lines}
 use Rattle.toml_layout.specs.Spacings.{Spacing, plain_spacing}
-use Rattle.toml_working.specs.Written.{LeavesTable, HasSection}
+use Rattle.toml_editor.specs.RemoveLaws.{LeavesTable, TakesTable}
+use Rattle.toml_working.specs.RemoveStanding.{above}
+use Rattle.toml_working.specs.Written.{HasSection}
 
 -- a keyval line: itself, what lies in its value, and its comment; to the table in which it stands lead so many steps
 abbrev pub pair_line_units : Piece → Address → ℕ → Value → Option Piece → List TextUnit
@@ -63,8 +65,15 @@ InsertUnits = (q : Address) (name : List ℕ) (v : Value) (manner : Manner) (lin
     → (s : Spacing) × (manner.layout ≡ layouts.Plain → s ≡ plain_spacing)
     × IsBlockPut (units lines) (pair_line_units (fresh (pair_text s name v)) (child q name) (length q) v None) (units (insert_in q name v manner lines))
 
--- Law: the units of the new lines are those of the old ones without those of the line.
+-- Laws: the units of the new lines are those of the old ones without those of the line, where the table right above the value stays;
 abbrev pub RemoveUnits : Type 0
 RemoveUnits = (p : Address) (lines : List Line) → AreLines lines → LeavesTable lines p → KeepsRules (named lines)
     → (piece : Piece) × (base : ℕ) × (v : Value) × (comment : Option Piece) × (base < length p)
     × IsBlockTaken (units lines) (pair_line_units piece p base v comment) (units (remove_lines p lines))
+
+-- else with one line in their place, of the table, which is empty.
+abbrev pub EmptyUnits : Type 0
+EmptyUnits = (p : Address) (lines : List Line) → TakesTable lines p → KeepsRules (named lines)
+    → (piece next : Piece) × (base : ℕ) × (v : Value) × (comment : Option Piece) × (front back : List TextUnit)
+    × (units lines ≡ front ++ (pair_line_units piece p base v comment ++ back))
+    × (units (remove_lines p lines) ≡ front ++ (pair_line_units next (above p) base empty_table None ++ back))

@@ -26,10 +26,10 @@ use Rattle.toml_working.specs.Stands.{KeepsRest, SetsLines, Stands}
 use Rattle.toml_working.specs.Starting.{NoneIsGone}
 use Rattle.toml_editor.specs.Steps.{IsGoodText, IsPlain}
 use Rattle.toml_layout.specs.TreeOutlines.{value_outline}
-use Rattle.toml_working.specs.Written.{AreEdited, HasValue, IsWritten}
+use Rattle.toml_working.specs.Written.{AreEdited, HasLine, HasValue, IsWritten}
 use Rattle.toml_editor.proofs.SourceKept.{source_kept}
-use Rattle.toml_editor.proofs.written.RemoveNamed.{HasLine, line_parts}
-use Rattle.toml_editor.proofs.written.RemoveStanding.{remove_stands}
+use Rattle.toml_editor.proofs.written.RemoveNamed.{line_parts}
+use Rattle.toml_editor.proofs.written.RemovedEither.{remove_stands}
 use Rattle.toml_editor.proofs.written.Steps.{plain_step, step_lines}
 use Rattle.toml_editor.proofs.written.SetStanding.{set_stands}
 use Rattle.toml_editor.proofs.written.StandingBare.{places_do_not_stand}
@@ -103,9 +103,9 @@ pub remove_follows : (profile : Profile) (read : Read) (old new : Tree) (p : Add
     → RemovesLines p read old new → Follows profile read (remove p) old new text now
 remove_follows profile read old new p text kinds now at none is_after there removes =
     let lines = at.good.tree.lines in
-    let (rest, made) = removes (value_not_root p lines there.0) (standing lines) at.stands (rules_order lines at.good.good.0) there.0 in
+    let (rest, made) = removes (value_not_root p lines there) (standing lines) at.stands (rules_order lines at.good.good.0) there in
     let edited = remove_lines p lines in
     let stands : Stands (text_of new.texts.source) read new.slots.items (standing edited) =
-    subst₂ (λ (s : Texts) ls. Stands (text_of s.source) read new.slots.items ls) (sym rest.texts) (sym (remove_stands p lines there)) made in
+    subst₂ (λ (s : Texts) ls. Stands (text_of s.source) read new.slots.items ls) (sym rest.texts) (sym (remove_stands p lines there at.good.good.0)) made in
     follows profile read (remove p) old new text kinds now edited at.newline at.good none is_after (there, refl) stands
     (subst NoneIsGone (sym rest.elements) at.whole) (source_kept old new rest.texts rest.style)

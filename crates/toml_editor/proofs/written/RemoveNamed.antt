@@ -14,11 +14,12 @@ use Rattle.toml_names.specs.mentions.Rules.{KeepsRules}
 use Rattle.toml_names.proofs.Proved.{line_values_stand_alone}
 use Rattle.toml_units.specs.Units.{line_units}
 use Rattle.toml_editor.specs.UnitBlocks.{pair_line_units}
-use Rattle.toml_editor.specs.Blocks.{IsPut, value_block}
-use Rattle.toml_editor.specs.RemoveLaws.{RemoveNames, RemoveKeepsLines, HasValueAt}
+use Rattle.toml_editor.specs.Blocks.{IsPut, named_plain, value_block}
+use Rattle.toml_editor.specs.RemoveLaws.{HasValueAt}
 use Rattle.toml_working.specs.Lines.{lines_from}
-use Rattle.toml_working.specs.Standing.{line_stands, standing, standing_from}
-use Rattle.toml_working.specs.Removing.{remove_line, remove_lines, left_behind, empty_line}
+use Rattle.toml_working.specs.Standing.{line_stands, standing_from}
+use Rattle.toml_working.specs.Removing.{empty_line, left_behind, left_of_line, lines_left, remove_line}
+use Rattle.toml_working.specs.Written.{HasLine}
 use Rattle.toml_working.specs.RemoveStanding.{is_pair}
 use Rattle.toml_editor.proofs.written.Alike.{alike_self, alike_pair}
 use Rattle.toml_editor.proofs.written.Behind.{put_behind, put_here}
@@ -32,10 +33,6 @@ use Rattle.toml_editor.proofs.written.Unplain.{pairs_plain}
 abbrev pub NoPair : Address → List Named → Type 0
 NoPair p = EachIs (λ m. m.address ≡ p → ¬ (m.role ≡ Valued))
 
--- a line has the value there
-abbrev pub HasLine : List Line → Address → Type 0
-HasLine lines p = list_any (is_pair p) (standing lines) ≡ true
-
 -- it is that of a name in a table
 abbrev pub IsMember : Address → Type 0
 IsMember p = (table : Address) × (name : List ℕ) × (p ≡ child table name)
@@ -45,17 +42,17 @@ pub last_name : (s : Address) (n : List ℕ) (ns : Key) → IsMember (below s (n
 last_name s n [] = (s, n, refl)
 last_name s n (m ∷ ns) = subst IsMember (below-cons s n (m ∷ ns)) (last_name (child s n) m ns)
 
-module _ (p : Address) where
+-- what the line names of which this is the key, in the table
+abbrev pub line_block : Address → Address → Key → Value → List Named
+line_block p s key v = fronts 0 s key ++ value_block p v
+
+module _ (p : Address) (b : Bool) where
   abbrev pub IsPair : Named → Type 0
   IsPair m = (m.address ≡ p) × (m.role ≡ Valued)
 
-  -- what the line names of which this is the key, in the table
-  abbrev pub line_block : Address → Key → Value → List Named
-  line_block s key v = fronts 0 s key ++ value_block p v
-
   -- a line stays
   abbrev pub Stays : List Named → Line → Type 0
-  Stays xs l = (remove_line p xs l ≡ l ∷ []) × (is_pair p (line_stands xs l) ≡ false)
+  Stays xs l = (remove_line p b xs l ≡ l ∷ []) × (is_pair p (line_stands xs l) ≡ false)
 
   -- a line goes
   pub record Goes_away (xs : List Named) (l : Line) : Type 0 where
@@ -64,9 +61,9 @@ module _ (p : Address) where
     pub value : Value
     pub some : ¬ (key ≡ [])
     pub at : below (section xs) key ≡ p
-    pub gone : remove_line p xs l ≡ left_behind l
-    pub names : (ys : List Named) → AreAlike xs ys → named_by ys 0 l.expr ≡ line_block (section xs) key value
-    pub alike : (ys : List Named) → AreAlike xs ys → AreAlike ys (ys ++ line_block (section xs) key value)
+    pub gone : remove_line p b xs l ≡ left_of_line p b (length (section xs)) l
+    pub names : (ys : List Named) → AreAlike xs ys → named_by ys 0 l.expr ≡ line_block p (section xs) key value
+    pub alike : (ys : List Named) → AreAlike xs ys → AreAlike ys (ys ++ line_block p (section xs) key value)
     pub units : (piece : Piece) × (comment : Option Piece) × (line_units xs l.expr ≡ pair_line_units piece p (length (section xs)) value comment)
 
   pub line_by : (xs : List Named) (l : Line) → Stays xs l ⊎ Goes_away xs l
@@ -84,17 +81,17 @@ module _ (p : Address) where
           to : Address
           to = below (section xs) key
 
-          removed : remove_line p xs l ≡ cond (same_address to p) (left_behind l) (l ∷ [])
+          removed : remove_line p b xs l ≡ cond (same_address to p) (left_of_line p b (length (section xs)) l) (l ∷ [])
           removed = rw is refl
 
           paired : is_pair p (line_stands xs l) ≡ same_address to p
           paired = rw is refl
 
-          at_test : (b : Bool) → same_address to p ≡ b → Stays xs l ⊎ Goes_away xs l
+          at_test : (t : Bool) → same_address to p ≡ t → Stays xs l ⊎ Goes_away xs l
           at_test false other = inl (removed ∙ cond-false _ _ _ other, paired ∙ other)
           at_test true same =
               let at : to ≡ p = same_is to p same in
-              let pair_is : (ys : List Named) → AreAlike xs ys → pair_named 0 (section ys) pair.assign pair.value ≡ line_block (section xs) key pair.value =
+              let pair_is : (ys : List Named) → AreAlike xs ys → pair_named 0 (section ys) pair.assign pair.value ≡ line_block p (section xs) key pair.value =
               λ ys alike. ap (λ s. pair_named 0 s pair.assign pair.value) (sym alike.sections) ∙ ap (λ q. fronts 0 (section xs) key ++ value_block q pair.value) at in
               inr (record {
                 own = subst (HasValueAt p xs) (sym is) at;
@@ -113,41 +110,30 @@ module _ (p : Address) where
               })
 
   -- such a line names the pair
-  pair_in : (s : Address) (key : Key) (v : Value) → Has IsPair (line_block s key v)
+  pair_in : (s : Address) (key : Key) (v : Value) → Has IsPair (line_block p s key v)
   pair_in s key v = has_append_right IsPair (fronts 0 s key) (value_block p v) (inl (refl, refl))
 
   no_pair : (ms : List Named) → NoPair p ms → Has IsPair ms → ⊥
   no_pair = from_has (λ m. m.address ≡ p → ¬ (m.role ≡ Valued)) IsPair ⊥ (λ m not is. not is.0 is.1)
 
   -- where no pair has the address, all lines stay
-  pub none_gone : (ls : List Line) (xs ys : List Named) (n : ℕ) → AreAlike xs ys → NoPair p (behind ys ls) → lines_from (remove_line p) xs n ls ≡ ls
+  pub none_gone : (ls : List Line) (xs ys : List Named) (n : ℕ) → AreAlike xs ys → NoPair p (behind ys ls) → lines_from (remove_line p b) xs n ls ≡ ls
   none_gone [] xs ys n alike none = refl
   none_gone (l ∷ ls) xs ys n alike none =
       elim (line_by xs l) [
         | inl stays ↦
-            ap (λ r. r ++ lines_from (remove_line p) (xs ++ named_by xs n l.expr) (n + 1) ls) stays.0
+            ap (λ r. r ++ lines_from (remove_line p b) (xs ++ named_by xs n l.expr) (n + 1) ls) stays.0
             ∙ ap (λ r. l ∷ r) (none_gone ls (xs ++ named_by xs n l.expr) (ys ++ named_by ys 0 l.expr) (n + 1) (next_alike xs ys n l.expr alike) (each_back _ (named_by ys 0 l.expr) (behind (ys ++ named_by ys 0 l.expr) ls) none))
         | inr goes ↦
             absurd (no_pair (named_by ys 0 l.expr) (each_front _ (named_by ys 0 l.expr) (behind (ys ++ named_by ys 0 l.expr) ls) none)
             (subst (Has IsPair) (sym (goes.names ys alike)) (pair_in (section xs) goes.key goes.value)))
       ]
 
-  left_names : (ys : List Named) (l : Line) (ls : List Line) → behind ys (left_behind l ++ ls) ≡ behind ys ls
-  left_names ys l ls = by (length l.newline.text == 0)
-    where
-      by : (b : Bool) → behind ys (cond b (empty_line ∷ []) [] ++ ls) ≡ behind ys ls
-      by true = ap (λ r. behind r ls) (append-nil ys)
-      by false = refl
-
-  -- one line is gone, and what it named
+  -- one line is gone
   abbrev Gone : List Named → ℕ → List Line → Type 0
   Gone xs n ls =
       (front : List Line) × (l : Line) × (back : List Line) × (ls ≡ front ++ l ∷ back) × HasValueAt p (named_from xs n front) l.expr
-      × (lines_from (remove_line p) xs n ls ≡ front ++ (left_behind l ++ back))
-
-  abbrev Unnamed : List Named → List Line → List Line → Type 0
-  Unnamed ys new old =
-      (s : Address) × (key : Key) × (v : Value) × (p ≡ below s key) × IsPut (behind ys new) (line_block s key v) (behind ys old)
+      × (lines_from (remove_line p b) xs n ls ≡ front ++ (left_of_line p b (length (section (named_from xs n front))) l ++ back))
 
   -- what holds of lines of which one is the pair's: it does if that line comes first, and if it does of the lines behind one that stays
   abbrev pub Claim : Type 1
@@ -159,7 +145,7 @@ module _ (p : Address) where
 
   abbrev pub AtOne : Claim → Type 0
   AtOne C = (xs ys : List Named) (n : ℕ) (l : Line) (ls : List Line) → AreAlike xs ys → Goes_away xs l
-      → lines_from (remove_line p) (xs ++ named_by xs n l.expr) (n + 1) ls ≡ ls → C xs ys n (l ∷ ls)
+      → lines_from (remove_line p b) (xs ++ named_by xs n l.expr) (n + 1) ls ≡ ls → C xs ys n (l ∷ ls)
 
   -- a line has the value there
   abbrev HasOne : List Named → ℕ → List Line → Type 0
@@ -214,41 +200,59 @@ module _ (p : Address) where
       let alone : PairsAre Alone (root ∷ behind (root ∷ []) lines) = subst (PairsAre Alone) (plain_is lines) (pairs_plain lines Alone (λ x y h. h) (pairs_of_all Alone (named lines) (line_values_stand_alone lines keeps))) in
       by_lines C stays goes lines (root ∷ []) (root ∷ []) 0 (alike_self (root ∷ [])) alone.1 there
 
-  -- what is named, and which line goes
-  abbrev Taken : Claim
-  Taken xs ys n ls = Unnamed ys (lines_from (remove_line p) xs n ls) ls × Gone xs n ls
+  -- which line goes
+  abbrev Parted : Claim
+  Parted xs ys n ls = Gone xs n ls
 
-  behind_one : BehindOne Taken
-  behind_one xs ys n l ls alike stays both =
-      let kept = lines_from (remove_line p) (xs ++ named_by xs n l.expr) (n + 1) ls in
-      let new_ones = named_by ys 0 l.expr in
-      let found = both.0 in
-      let gone = both.1 in (
-        (
-          found.0,
-          found.1,
-          found.2,
-          found.3,
-          subst (λ r. IsPut (behind ys (r ++ kept)) (line_block found.0 found.1 found.2) (new_ones ++ behind (ys ++ new_ones) ls)) (sym stays.0)
-              (put_behind new_ones (behind (ys ++ new_ones) kept) (line_block found.0 found.1 found.2) (behind (ys ++ new_ones) ls) found.4),
-        ),
-        (l ∷ gone.0, gone.1, gone.2, ap (λ r. l ∷ r) gone.3, gone.4, ap (λ r. r ++ kept) stays.0 ∙ ap (λ r. l ∷ r) gone.5),
+  gone_behind : BehindOne Parted
+  gone_behind xs ys n l ls alike stays gone =
+      let kept = lines_from (remove_line p b) (xs ++ named_by xs n l.expr) (n + 1) ls in
+      (l ∷ gone.0, gone.1, gone.2, ap (λ r. l ∷ r) gone.3, gone.4, ap (λ r. r ++ kept) stays.0 ∙ ap (λ r. l ∷ r) gone.5)
+
+  gone_here : AtOne Parted
+  gone_here xs ys n l ls alike goes same = ([], l, ls, refl, goes.own, ap₂ (λ x y. x ++ y) goes.gone same)
+
+  pub parted : (lines : List Line) → HasLine lines p → KeepsRules (named lines) → Gone (root ∷ []) 0 lines
+  parted = by_document Parted gone_behind gone_here
+
+-- what is named where the line goes
+module _ (p : Address) where
+  left_names : (ys : List Named) (l : Line) (ls : List Line) → behind ys (left_behind l ++ ls) ≡ behind ys ls
+  left_names ys l ls = by (length l.newline.text == 0)
+    where
+      by : (b : Bool) → behind ys (cond b (empty_line ∷ []) [] ++ ls) ≡ behind ys ls
+      by true = ap (λ r. behind r ls) (append-nil ys)
+      by false = refl
+
+  abbrev Unnamed : Claim p true
+  Unnamed xs ys n ls =
+      (s : Address) × (key : Key) × (v : Value) × (p ≡ below s key)
+      × IsPut (behind ys (lines_from (remove_line p true) xs n ls)) (line_block p s key v) (behind ys ls)
+
+  behind_one : BehindOne p true Unnamed
+  behind_one xs ys n l ls alike stays found =
+      let kept = lines_from (remove_line p true) (xs ++ named_by xs n l.expr) (n + 1) ls in
+      let new_ones = named_by ys 0 l.expr in (
+        found.0,
+        found.1,
+        found.2,
+        found.3,
+        subst (λ r. IsPut (behind ys (r ++ kept)) (line_block p found.0 found.1 found.2) (new_ones ++ behind (ys ++ new_ones) ls)) (sym stays.0)
+            (put_behind new_ones (behind (ys ++ new_ones) kept) (line_block p found.0 found.1 found.2) (behind (ys ++ new_ones) ls) found.4),
       )
 
-  at_one : AtOne Taken
+  at_one : AtOne p true Unnamed
   at_one xs ys n l ls alike goes same =
-      let kept = lines_from (remove_line p) (xs ++ named_by xs n l.expr) (n + 1) ls in
+      let kept = lines_from (remove_line p true) (xs ++ named_by xs n l.expr) (n + 1) ls in
       let new_ones = named_by ys 0 l.expr in
       let named_so = goes.names ys alike in
-      let its = line_block (section xs) goes.key goes.value in
-      let left : behind ys (remove_line p xs l ++ kept) ≡ behind ys ls = ap₂ (λ a b. behind ys (a ++ b)) goes.gone same ∙ left_names ys l ls in
-      let right : new_ones ++ behind (ys ++ new_ones) ls ≡ its ++ behind ys ls = ap₂ (λ a b. a ++ b) named_so (ap (λ b. behind (ys ++ b) ls) named_so ∙ sym (behind_alike ls ys (ys ++ its) (goes.alike ys alike))) in (
-        (section xs, goes.key, goes.value, sym goes.at, subst₂ (λ a b. IsPut a its b) (sym left) (sym right) (put_here its (behind ys ls))),
-        ([], l, ls, refl, goes.own, ap₂ (λ a b. a ++ b) goes.gone same),
-      )
+      let its = line_block p (section xs) goes.key goes.value in
+      let left : behind ys (remove_line p true xs l ++ kept) ≡ behind ys ls = ap₂ (λ a b. behind ys (a ++ b)) goes.gone same ∙ left_names ys l ls in
+      let right : new_ones ++ behind (ys ++ new_ones) ls ≡ its ++ behind ys ls = ap₂ (λ a b. a ++ b) named_so (ap (λ b. behind (ys ++ b) ls) named_so ∙ sym (behind_alike ls ys (ys ++ its) (goes.alike ys alike))) in
+      (section xs, goes.key, goes.value, sym goes.at, subst₂ (λ a b. IsPut a its b) (sym left) (sym right) (put_here its (behind ys ls)))
 
-  taken_out : (lines : List Line) → HasLine lines p → KeepsRules (named lines) → Taken (root ∷ []) (root ∷ []) 0 lines
-  taken_out = by_document Taken behind_one at_one
+  unnamed : (lines : List Line) → HasLine lines p → KeepsRules (named lines) → Unnamed (root ∷ []) (root ∷ []) 0 lines
+  unnamed = by_document p true Unnamed behind_one at_one
 
 line_member : (p : Address) (xs : List Named) (e : Expr) (newline : Piece) → is_pair p (line_stands xs (record { expr = e; newline = newline })) ≡ true → IsMember p
 line_member p xs (BlankLine b) newline is = absurd (true≢false (sym is))
@@ -272,16 +276,25 @@ lines_member p (l ∷ ls) xs n there = at (is_pair p (line_stands xs l)) refl th
 pub line_parts : (p : Address) (lines : List Line) → HasLine lines p → IsMember p
 line_parts p lines there = lines_member p lines (root ∷ []) 0 there
 
-pub remove_names : RemoveNames
-remove_names p lines there keeps =
-    let (s, key, v, at, put) = (taken_out p lines there.0 keeps).0 in (
+-- the lines without that of the value
+abbrev pub taken_lines : Address → List Line → List Line
+taken_lines p = lines_left p true
+
+pub taken_names : (p : Address) (lines : List Line) → HasLine lines p → KeepsRules (named lines)
+    → (s : Address) × (key : Key) × (v : Value) × (p ≡ below s key)
+    × IsPut (named_plain (taken_lines p lines)) (line_block p s key v) (named_plain lines)
+taken_names p lines there keeps =
+    let (s, key, v, at, put) = unnamed p lines there keeps in (
       s,
       key,
       v,
       at,
-      subst₂ (λ a b. IsPut a (line_block p s key v) b) (sym (plain_is (remove_lines p lines))) (sym (plain_is lines))
-          (put_behind (root ∷ []) (behind (root ∷ []) (remove_lines p lines)) (line_block p s key v) (behind (root ∷ []) lines) put),
+      subst₂ (λ a b. IsPut a (line_block p s key v) b) (sym (plain_is (taken_lines p lines))) (sym (plain_is lines))
+          (put_behind (root ∷ []) (behind (root ∷ []) (taken_lines p lines)) (line_block p s key v) (behind (root ∷ []) lines) put),
     )
 
-pub remove_keeps_lines : RemoveKeepsLines
-remove_keeps_lines p lines there keeps = (taken_out p lines there.0 keeps).1
+-- the lines before that of the value, and behind it
+pub lines_part : (p : Address) (b : Bool) (lines : List Line) → HasLine lines p → KeepsRules (named lines)
+    → (front : List Line) × (l : Line) × (back : List Line) × (lines ≡ front ++ l ∷ back) × HasValueAt p (named front) l.expr
+    × (lines_left p b lines ≡ front ++ (left_of_line p b (length (section (named front))) l ++ back))
+lines_part p b lines there keeps = parted p b lines there keeps

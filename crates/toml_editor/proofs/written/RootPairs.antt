@@ -8,7 +8,7 @@ use Rattle.toml_names.specs.model.Addresses.{Address, IsAbove, same_address, chi
 use Rattle.toml_names.specs.mentions.Keys.{Key, key_names, part_name, rest_names}
 use Rattle.toml_names.specs.mentions.Mentions.{Named, named, named_by, named_from, root, fronts, value_named, inside, section, followed, entered, ends_table, ends_tables}
 use Rattle.toml_names.proofs.Proved.{inside_is_below}
-use Rattle.toml_working.specs.RemoveStanding.{above, is_pair, is_undotted_at, is_undotted_pair, is_value_at, makes_beside}
+use Rattle.toml_working.specs.RemoveStanding.{is_pair, is_undotted_at, is_undotted_pair, is_value_at}
 use Rattle.std.specs.Bool.{nat_lt}
 use Rattle.std.specs.Prelude.{not}
 use Rattle.std.proofs.lemmas.Bool.{and_parts}
@@ -127,6 +127,4 @@ some_pair p (s ∷ ss) there = by (is_undotted_pair p s) refl there (some_pair p
 
 pub root_pairs : RootPairIsLine
 root_pairs name lines there =
-    let p = Name name ∷ [] in
-    let undotted = root_pair_is_line name lines (has_of_any _ (named lines) there) in
-    (some_pair p (standing lines) undotted, ap (λ b. b || list_any (makes_beside (above p) p) (standing lines)) undotted)
+    some_pair (Name name ∷ []) (standing lines) (root_pair_is_line name lines (has_of_any _ (named lines) there))

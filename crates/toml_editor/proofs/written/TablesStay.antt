@@ -21,9 +21,8 @@ use Rattle.toml_names.specs.reader.Names.{own_address}
 use Rattle.toml_names.proofs.Proved.{above_is_above, lines_are_closed, own_address_has_fact, same_step-self}
 use Rattle.toml_units.specs.Units.{line_base}
 use Rattle.toml_layout.specs.Beginnings.{begins}
-use Rattle.toml_working.specs.Removing.{remove_lines}
 use Rattle.toml_working.specs.RemoveStanding.{above, is_pair, is_undotted_at, is_undotted_pair, is_value_at, left_standing, makes, makes_beside, remove_one}
-use Rattle.toml_working.specs.Written.{LeavesTable}
+use Rattle.toml_editor.specs.RemoveLaws.{LeavesTable}
 use Rattle.toml_working.specs.Seeing.{heads, heads_below, is_dotted}
 use Rattle.toml_working.specs.Sections.{stands_in}
 use Rattle.toml_working.specs.Standing.{Standing, is_below, lies_below, line_stands, standing}
@@ -33,11 +32,12 @@ use Rattle.toml_editor.proofs.written.Members.{above_member}
 use Rattle.toml_editor.proofs.written.OneSection.{AreSectioned, Heads, among_of, heads_within, same_begin, section_over, sectioned_back}
 use Rattle.toml_editor.proofs.written.Plain.{plain_is}
 use Rattle.toml_editor.proofs.written.Pairwise.{Has, any_of_has}
-use Rattle.toml_editor.proofs.written.RemoveStanding.{remove_stands}
+use Rattle.toml_editor.proofs.written.RemoveNamed.{taken_lines}
+use Rattle.toml_editor.proofs.written.RemoveStanding.{taken_stands}
 use Rattle.toml_editor.proofs.written.StandingOrder.{begins_is}
 use Rattle.toml_editor.proofs.written.Unplain.{plain_has}
 
-either : (a b : Bool) → (a || b) ≡ true → (a ≡ true) ⊎ (b ≡ true)
+pub either : (a b : Bool) → (a || b) ≡ true → (a ≡ true) ⊎ (b ≡ true)
 either true b is = inl refl
 either false b is = inr is
 
@@ -49,11 +49,11 @@ and_false : (b : Bool) → (b && false) ≡ false
 and_false true = refl
 and_false false = refl
 
-begins_self : (a : Address) → begins a a ≡ true
+pub begins_self : (a : Address) → begins a a ≡ true
 begins_self a = ap (begins a) (sym (append-nil a)) ∙ begins_longer a []
 
 -- the line of a value stands at its address
-value_below : (p : Address) (base : Option ℕ) (own : Option Address) → is_value_at p base own ≡ true → lies_below p own ≡ true
+pub value_below : (p : Address) (base : Option ℕ) (own : Option Address) → is_value_at p base own ≡ true → lies_below p own ≡ true
 value_below p None own is = cc
 value_below p (Some n) None is = cc
 value_below p (Some n) (Some a) is = subst (λ x. begins x a ≡ true) (same_is a p is) (begins_self a)
@@ -122,7 +122,7 @@ module _ (p q : Address) where
 
 -- ---- the table right above a value
 
-above_is : (q : Address) (last : Step) → above (q ++ last ∷ []) ≡ q
+pub above_is : (q : Address) (last : Step) → above (q ++ last ∷ []) ≡ q
 above_is q last =
     let long : length (q ++ last ∷ []) ≡ length q + 1 = length-append q (last ∷ []) in
     let less : length (q ++ last ∷ []) - 1 ≡ length q = omega (arith, long) in
@@ -142,7 +142,7 @@ header_makes q last s is = by s.base s.address is (headed_at q s.base s.address 
     by None own h at =
         ap (λ o. lies_below q o && not (lies_below (q ++ last ∷ []) o)) at ∙ ap₂ (λ a b. a && not b) (begins_self q) (not_over q last)
 
-any_at : (test : Standing → Bool) (front : List Standing) (s : Standing) (back : List Standing) → test s ≡ true → list_any test (front ++ s ∷ back) ≡ true
+pub any_at : (test : Standing → Bool) (front : List Standing) (s : Standing) (back : List Standing) → test s ≡ true → list_any test (front ++ s ∷ back) ≡ true
 any_at test [] s back is = ap (λ b. b || list_any test back) is
 any_at test (x ∷ front) s back is = ap (λ b. test x || b) (any_at test front s back is) ∙ or_true (test x)
 
@@ -238,16 +238,16 @@ root_stands lines kinds is =
 
 -- what stands above the value still does
 pub above_stays : (q : Address) (name : List ℕ) (lines : List Line) (after : Kinds) → LeavesTable lines (child q name)
-    → KeepsRules (named (remove_lines (child q name) lines)) → IsDataOf (named (remove_lines (child q name) lines)) after
+    → KeepsRules (named (taken_lines (child q name) lines)) → IsDataOf (named (taken_lines (child q name) lines)) after
     → (x : Address) → IsAbove x (child q name) → (k : Kind) × (after x ≡ Some k)
 above_stays q name lines after leaves keeps is x above =
     let p = child q name in
-    let lines' = remove_lines p lines in
+    let lines' = taken_lines p lines in
     let (r, q_is) = above_member q name x above in
     by (parent_made q (Name name) lines leaves) r q_is
   where
     closed : IsClosed after
-    closed = lines_are_closed (remove_lines (child q name) lines) after keeps is
+    closed = lines_are_closed (taken_lines (child q name) lines) after keeps is
 
     none_above : (x r : Address) → [] ≡ x ++ r → x ≡ []
     none_above [] r is = refl
@@ -255,11 +255,10 @@ above_stays q name lines after leaves keeps is x above =
 
     by : (q ≡ []) ⊎ (list_any (makes_beside q (child q name)) (standing lines) ≡ true) → (r : Address) → q ≡ x ++ r → (k : Kind) × (after x ≡ Some k)
     by (inl root_is) r q_is =
-        (a_table, ap after (none_above x r (sym root_is ∙ q_is)) ∙ root_stands (remove_lines (child q name) lines) after is)
+        (a_table, ap after (none_above x r (sym root_is ∙ q_is)) ∙ root_stands (taken_lines (child q name) lines) after is)
     by (inr made) r q_is =
-        let standing_is = remove_stands (child q name) lines leaves ∙ ap (λ b. flat_map (remove_one (child q name) b) (standing lines)) leaves.1 in
-        let stays = ap (list_any (makes_beside q (child q name))) standing_is ∙ makers_stay (child q name) q (standing lines) made in
-        let (down, some) = made_has_fact (child q name) q (remove_lines (child q name) lines) after is stays in
+        let stays = ap (list_any (makes_beside q (child q name))) (taken_stands (child q name) lines) ∙ makers_stay (child q name) q (standing lines) made in
+        let (down, some) = made_has_fact (child q name) q (taken_lines (child q name) lines) after is stays in
         stands_up after closed x (r ++ down) (subst (λ a. IsSome (after a)) (ap (λ a. a ++ down) q_is ∙ append_assoc x r down) some)
 
 -- the tables that a key makes stand above its value

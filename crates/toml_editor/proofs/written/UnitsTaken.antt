@@ -9,18 +9,18 @@ use Rattle.toml_names.specs.mentions.Alike.{AreAlike}
 use Rattle.toml_names.specs.mentions.Mentions.{Named, named, named_by, section}
 use Rattle.toml_units.specs.Units.{TextUnit, line_units, units_from, units}
 use Rattle.toml_working.specs.Lines.{lines_from}
-use Rattle.toml_working.specs.Removing.{remove_line, left_behind, empty_line, remove_lines}
-use Rattle.toml_editor.specs.UnitBlocks.{IsBlockTaken, pair_line_units, left_of, RemoveUnits}
+use Rattle.toml_working.specs.Removing.{remove_line, left_behind, empty_line}
+use Rattle.toml_editor.specs.UnitBlocks.{IsBlockTaken, pair_line_units, left_of}
 use Rattle.std.specs.Prelude.{slice_get}
 use Rattle.toml_names.specs.mentions.Rules.{KeepsRules}
-use Rattle.toml_working.specs.Written.{LeavesTable}
+use Rattle.toml_working.specs.Written.{HasLine}
 use Rattle.toml_editor.proofs.written.WayZip.{lines_in}
 use Rattle.toml_editor.proofs.written.WayFits.{newlines}
 use Rattle.toml_editor.proofs.written.WayBlock.{lines_append}
 use Rattle.toml_editor.proofs.written.Alike.{alike_sym, alike_trans}
 use Rattle.toml_editor.proofs.written.Formed.{newline_some}
 use Rattle.toml_editor.proofs.written.Plain.{next_alike}
-use Rattle.toml_editor.proofs.written.RemoveNamed.{Claim, BehindOne, AtOne, by_document, line_block}
+use Rattle.toml_editor.proofs.written.RemoveNamed.{Claim, BehindOne, AtOne, by_document, line_block, taken_lines}
 use Rattle.toml_editor.proofs.written.UnitsAlike.{units_alike}
 use Rattle.toml_editor.proofs.written.UnitsPut.{lines_first, line_lines}
 
@@ -47,7 +47,7 @@ module _ (p : Address) where
       let f = ap length at in omega (arith, e, f)
 
   abbrev gone : List Named → Line → List Line
-  gone = remove_line p
+  gone = remove_line p true
 
   -- the units of the line are taken out, and the newlines of the other lines stay
   pub record AreTaken (old new : List TextUnit) (before after : List (List ℕ)) : Type 0 where
@@ -98,16 +98,16 @@ module _ (p : Address) where
   left_units xs n k l (m ∷ ms) is = ap (λ b. units_from xs n (cond b (empty_line ∷ []) [] ++ m ∷ ms)) is.0
 
   -- of lines that end as those of a text do
-  abbrev Taken : Claim p
+  abbrev Taken : Claim p true
   Taken xs ys n ls = AreEnded ls → AreTaken (units_from xs n ls) (units_from xs n (lines_from gone xs n ls)) (newlines ls) (newlines (lines_from gone xs n ls))
 
-  behind_one : BehindOne p Taken
+  behind_one : BehindOne p true Taken
   behind_one xs ys n l ls alike stays more is =
       let kept = lines_from gone (xs ++ named_by xs n l.expr) (n + 1) ls in
       subst (λ r. AreTaken (units_from xs n (l ∷ ls)) (units_from xs n (r ++ kept)) (newlines (l ∷ ls)) (newlines (r ++ kept))) (sym stays.0)
       (taken_behind (line_units xs l.expr) (units_from (xs ++ named_by xs n l.expr) (n + 1) ls) (units_from (xs ++ named_by xs n l.expr) (n + 1) kept) (newlines ls) (newlines kept) l.newline.text (line_lines xs l.expr) (more (later l ls is)))
 
-  at_one : AtOne p Taken
+  at_one : AtOne p true Taken
   at_one xs ys n l ls alike goes same is =
       let behind_it : AreAlike xs (xs ++ named_by xs n l.expr) =
       alike_trans xs (ys ++ line_block p (section xs) goes.key goes.value) (xs ++ named_by xs n l.expr)
@@ -135,12 +135,7 @@ module _ (p : Address) where
             ∙ ap₂ (λ r k. slice_get (newlines r) k) (sym (ap₂ (λ x y. x ++ y) goes.gone same)) (let e : a ≡ 0 + a = omega arith in e);
       }
 
-  pub lines_taken : (lines : List Line) → AreLines lines → LeavesTable lines p → KeepsRules (named lines)
-      → AreTaken (units lines) (units (remove_lines p lines)) (newlines lines) (newlines (remove_lines p lines))
+  pub lines_taken : (lines : List Line) → AreLines lines → HasLine lines p → KeepsRules (named lines)
+      → AreTaken (units lines) (units (taken_lines p lines)) (newlines lines) (newlines (taken_lines p lines))
   lines_taken lines is there keeps =
-      by_document p Taken behind_one at_one lines there.0 keeps (ended lines is)
-
-pub remove_units : RemoveUnits
-remove_units p lines is there keeps =
-    let h = lines_taken p lines is there keeps in
-    (h.piece, h.base, h.value, h.comment, h.low, h.taken)
+      by_document p true Taken behind_one at_one lines there keeps (ended lines is)

@@ -25,9 +25,9 @@ use Rattle.toml_checker.specs.Plain.{Site, site, next_line, stands, is_named, is
 use Rattle.toml_edits.specs.Sides.{side}
 use Rattle.toml_edits.proofs.Proved.{parted_at_last, sides_are_right}
 use Rattle.toml_editor.specs.ChangedUnits.{is_inner, LiesInValue}
-use Rattle.toml_working.specs.Removing.{remove_lines}
+use Rattle.toml_editor.proofs.written.RemoveNamed.{taken_lines}
 use Rattle.toml_editor.specs.UnitBlocks.{pair_line_units, left_of, BeginWithLine}
-use Rattle.toml_working.specs.Written.{LeavesTable}
+use Rattle.toml_working.specs.Written.{HasLine}
 use Rattle.toml_editor.proofs.Each.{each_front, each_back}
 use Rattle.toml_editor.proofs.written.Members.{above_member}
 use Rattle.toml_editor.proofs.written.RemoveKept.{removed_below}
@@ -55,14 +55,14 @@ module _ (table : Address) (name : List ℕ) (before after : List (List ℕ)) wh
   abbrev Fit : Option Site → ℕ → ℕ → List Step → Type 0
   Fit = Fits (c ∷ []) ([] ∷ []) before after
 
-  abbrev IsHome : Option Site → Type 0
+  abbrev pub IsHome : Option Site → Type 0
   IsHome line = home_stands (c ∷ []) line ≡ true
 
   -- a unit that is not at the name or below it
   abbrev pub IsFar : TextUnit → Type 0
   IsFar u = (a : Address) → u.address ≡ Some a → IsClear p a
 
-  owed : (a : Address) → IsClear p a → IsNear p a → IsOwed (c ∷ []) a
+  pub owed : (a : Address) → IsClear p a → IsNear p a → IsOwed (c ∷ []) a
   owed a clear (inl ([], is)) = absurd (clear.apart (sym (append-nil p) ∙ sym is))
   owed a clear (inl (s ∷ rest, is)) = absurd (clear.not_above (s, rest, is))
   owed a clear (inr above) =
@@ -128,7 +128,7 @@ module _ (table : Address) (name : List ℕ) (before after : List (List ℕ)) wh
     );
   }
 
-  same_fits : (us : List TextUnit) → EachIs IsFar us → (line : Option Site) (a b : ℕ) → IsHome line ⊎ BeginWithLine us → ((x : ℕ) → x < lines_in us → SameNewline (c ∷ []) ([] ∷ []) before after (a + x) (b + x)) → Fit line a b (same_way us)
+  pub same_fits : (us : List TextUnit) → EachIs IsFar us → (line : Option Site) (a b : ℕ) → IsHome line ⊎ BeginWithLine us → ((x : ℕ) → x < lines_in us → SameNewline (c ∷ []) ([] ∷ []) before after (a + x) (b + x)) → Fit line a b (same_way us)
   same_fits [] far line a b home same = tt
   same_fits (u ∷ us) far line a b home same = (
     matches line a b u far.0 home
@@ -156,7 +156,7 @@ module _ (table : Address) (name : List ℕ) (before after : List (List ℕ)) wh
   -- ---- the line that goes
 
   -- to the table in which it stood led so many steps
-  abbrev Gone : ℕ → Site
+  abbrev pub Gone : ℕ → Site
   Gone own = record { kind = kinds.Line; address = Some p; base = Some own }
 
   at_it : side p p ≡ sides.At
@@ -168,7 +168,7 @@ module _ (table : Address) (name : List ℕ) (before after : List (List ℕ)) wh
   home_gone : (own : ℕ) → home_stands (c ∷ []) (Some (Gone own)) ≡ false
   home_gone own = ap (λ s. not (is_named parts.Home c (Some own) s) && true) at_it
 
-  inner_lost : (own : ℕ) (us : List TextUnit) → EachIs (LiesInValue p) us → (a b : ℕ) → Fit (Some (Gone own)) a b (map old us)
+  pub inner_lost : (own : ℕ) (us : List TextUnit) → EachIs (LiesInValue p) us → (a b : ℕ) → Fit (Some (Gone own)) a b (map old us)
   inner_lost own [] lies a b = tt
   inner_lost own (u ∷ us) lies a b =
       by u.kind u.address u.base lies.0.0 lies.0.1 (λ x. inner_lost own us lies.1 x b)
@@ -192,10 +192,10 @@ module _ (table : Address) (name : List ℕ) (before after : List (List ℕ)) wh
       by kinds.Pair (Some x) base inner (inr h) more = let e = h.1 in cc
       by kinds.InnerComment (Some x) base inner h more = (and_left (stands parts.Comment (c ∷ []) (Some x) base) (home_gone own), more (a + 0))
 
-  line_gone : (own : ℕ) → stands parts.Line (c ∷ []) (Some p) (Some own) ≡ false
+  pub line_gone : (own : ℕ) → stands parts.Line (c ∷ []) (Some p) (Some own) ≡ false
   line_gone own = ap (λ s. not (is_named parts.Line c (Some own) s) && true) at_it
 
-  tail_lost : (own : ℕ) (o : Option Piece) (a b : ℕ) → Fit (Some (Gone own)) a b (map old (comment_units kinds.TailComment (Some p) o))
+  pub tail_lost : (own : ℕ) (o : Option Piece) (a b : ℕ) → Fit (Some (Gone own)) a b (map old (comment_units kinds.TailComment (Some p) o))
   tail_lost own None a b = tt
   tail_lost own (Some piece) a b = (home_gone own, tt)
 
@@ -211,7 +211,7 @@ module _ (table : Address) (name : List ℕ) (lines : List Line) where
   gone = child table name
 
   abbrev edited : List Line
-  edited = remove_lines gone lines
+  edited = taken_lines gone lines
 
   abbrev Fitting : Option Site → ℕ → ℕ → List Step → Type 0
   Fitting = Fits (remove gone ∷ []) ([] ∷ []) (newlines lines) (newlines edited)
@@ -388,6 +388,6 @@ module _ (table : Address) (name : List ℕ) (lines : List Line) where
           (same_fits table name (newlines lines) (newlines edited) (u ∷ us) far line (n + 1) n (inr (subst BeginWithLine (sym is) h.taken.next))
           (λ x low. inl (ap (slice_get (newlines lines)) (let e : (n + 1) + x ≡ n + suc x = omega arith in e) ∙ h.back_ends x (subst (λ l. x < lines_in l) is low))))
 
-  pub remove_way : AreLines lines → LeavesTable lines gone → KeepsRules (named lines)
+  pub taken_way : AreLines lines → HasLine lines gone → KeepsRules (named lines)
       → EachIs (IsFar table name (newlines lines) (newlines edited)) (units edited) → HasWay (remove gone ∷ []) ([] ∷ []) lines edited
-  remove_way is there keeps far = way_by (lines_taken gone lines is there keeps) far
+  taken_way is there keeps far = way_by (lines_taken gone lines is there keeps) far
