@@ -24,7 +24,7 @@ use Rattle.toml_working.specs.declared.working.Tree.{Tree}
 use Rattle.toml_editor.specs.CertifiedLists.{ArePlain}
 use Rattle.toml_editor.specs.Edited.{MayBeSpread, TakesLastElement}
 use Rattle.toml_working.specs.InValues.{Places}
-use Rattle.toml_editor.specs.LastTexts.{ChangesLines, IsInLine, IsPutThere}
+use Rattle.toml_editor.specs.LastTexts.{ChangesLines, IsInContainer, IsPutThere}
 use Rattle.toml_editor.specs.Exact.{Follows, HoldsOne, IsAt, IsOnePlace, IsSpreadOn, IsNeitherAt, IsNeitherOn, HoldsLast, MakesAll, MakesOne, OfPlain, OfNoPlaceAt, PassesAll, PassesAt, PassesOne, Stops, WritesEdit}
 use Rattle.toml_working.specs.Putting.{manner}
 use Rattle.toml_editor.specs.Making.{TellsOne}
@@ -33,12 +33,11 @@ use Rattle.toml_text.specs.Source.{text_of}
 use Rattle.toml_layout.specs.declared.texts.Texts.{Texts}
 use Rattle.toml_working.proofs.Proved.{held_inside, parent_held}
 use Rattle.toml_working.specs.HeldLines.{has_container_at}
-use Rattle.toml_working.specs.RemoveStanding.{remove_standing}
 use Rattle.toml_working.specs.Standing.{Read, Standing, holds, standing}
 use Rattle.toml_working.specs.Stands.{Stands}
 use Rattle.toml_editor.specs.Steps.{AreWritten}
 use Rattle.toml_working.specs.Written.{IsWritten}
-use Rattle.toml_editor.proofs.written.Follow.{remove_follows, set_follows, set_is_there, value_not_root}
+use Rattle.toml_editor.proofs.written.Follow.{remove_follows, set_follows, set_is_there}
 use Rattle.toml_editor.proofs.written.InsertFollow.{insert_follows}
 use Rattle.toml_editor.proofs.written.RemoveNamed.{line_parts}
 use Rattle.toml_editor.proofs.written.RenameFollow.{rename_follows}
@@ -105,16 +104,12 @@ holds_one profile read near (insert p value) old new done writes either text kin
         put = changed;
       },
     )
-holds_one profile read near (remove p) old new done writes either text kinds now at is_after (inl there) =
+holds_one profile read near (remove p) old new done writes either text kinds now at is_after there =
     let lines = at.good.tree.lines in
     let (not_root, inside) = held_inside p (standing lines) there in
     let held = (writes at.whole).1 not_root (standing lines) at.stands (rules_order lines at.good.good.0) inside in
     let (ts, stands, changed) = held.made (held.tells ∙ there) in
-    (ts, stands, inl (there, changed))
-holds_one profile read near (remove p) old new done writes either text kinds now at is_after (inr there) =
-    let lines = at.good.tree.lines in
-    let (rest, stands) = (writes at.whole).0 (value_not_root p lines there) (standing lines) at.stands (rules_order lines at.good.good.0) there in
-    (remove_standing p (standing lines), stands, inr (there, refl))
+    (ts, stands, (there, changed))
 holds_one profile read near (set p value) old new done writes either text kinds now at is_after there = absurd there
 holds_one profile read near (rename p to) old new done writes either text kinds now at is_after there = absurd there
 holds_one profile read near (new_section p) old new done writes either text kinds now at is_after there = absurd there
@@ -286,7 +281,7 @@ last_made profile read cs c old mid new makes one front d is text kinds now last
     (subst (λ es. AreWritten profile es (manner old) text between) (sym fronts) written) in
     let tree_is : all.at.good.tree ≡ e = one_tree all.at.good.tree e all.after all.at.good.spelled.0 (subst (Spells e) (sym text_is) spells.0) in
     let (ts, stands, changed) = one all.after now last all.at (subst (λ x. IsAfter profile x now last) (sym edits) is_after)
-    (subst₂ (λ (x : Doc) y. IsInLine x.lines y) (sym tree_is) (sym edits) there) in (
+    (subst₂ (λ (x : Doc) y. IsInContainer x.lines y) (sym tree_is) (sym edits) there) in (
       ts,
       subst (λ t. Stands t read new.slots.items ts) (ap (λ (s : Texts). text_of s.source) all.source.texts) stands,
       subst (λ (m : Manner). ChangesLines m.layout profile d (standing e.lines) ts) all.source.mannered

@@ -1,9 +1,9 @@
--- An edit of what stands on a line makes one thing of lines.
-use Rattle.std.proofs.Common.{◌≡◌, ◌∙◌, inl, inr, ap, sym}
+-- An edit of what an array or an inline table in a value holds makes one thing of lines.
+use Rattle.std.proofs.Common.{◌≡◌, ◌∙◌, ap, sym}
 use Rattle.toml_tree.proofs.Proved.{one_value}
 use Rattle.toml_edits.specs.Edits.{insert, new_element, new_section, remove, rename, set}
 use Rattle.toml_layout.specs.TreeOutlines.{value_outline}
-use Rattle.toml_working.proofs.Proved.{held_is_no_line, put_lines_are_one, taken_lines_are_one}
+use Rattle.toml_working.proofs.Proved.{put_lines_are_one, taken_lines_are_one}
 use Rattle.toml_editor.specs.LastTexts.{OneChange}
 
 pub one_change : OneChange
@@ -11,10 +11,7 @@ one_change layout profile (insert p text) old now new ordered h g =
     let same : h.tree ≡ g.tree = one_value h.tree g.tree 0 text h.is_value.0 g.is_value.0 in
     put_lines_are_one layout h.steps g.steps p h.new g.new old now new ordered (h.spelled ∙ sym g.spelled)
     (h.outlined ∙ ap value_outline same ∙ sym g.outlined) h.put g.put
-one_change layout profile (remove p) old now new ordered (inl h) (inl g) = taken_lines_are_one layout p old now new ordered h.1 g.1
-one_change layout profile (remove p) old now new ordered (inl h) (inr g) = absurd (held_is_no_line p old ordered h.0 g.0)
-one_change layout profile (remove p) old now new ordered (inr h) (inl g) = absurd (held_is_no_line p old ordered g.0 h.0)
-one_change layout profile (remove p) old now new ordered (inr h) (inr g) = h.1 ∙ sym g.1
+one_change layout profile (remove p) old now new ordered h g = taken_lines_are_one layout p old now new ordered h.1 g.1
 one_change layout profile (set p text) old now new ordered h g = absurd h
 one_change layout profile (rename p to) old now new ordered h g = absurd h
 one_change layout profile (new_section p) old now new ordered h g = absurd h

@@ -16,7 +16,7 @@ use Rattle.toml_edits.specs.Lists.{Lead}
 use Rattle.toml_layout.specs.declared.texts.Texts.{Texts}
 use Rattle.toml_working.specs.declared.working.Tree.{Tree}
 use Rattle.toml_editor.specs.CertifiedLists.{ArePlain}
-use Rattle.toml_editor.specs.LastTexts.{ChangesLines, IsInLine, WritesLast, standing_text}
+use Rattle.toml_editor.specs.LastTexts.{ChangesLines, IsInContainer, WritesLast, standing_text}
 use Rattle.toml_editor.specs.Exact.{FollowAll, HoldsLast, IsAt, MakesAll}
 use Rattle.toml_layout.specs.declared.layout.Layout.{Layout}
 use Rattle.toml_working.specs.Manners.{Manner}
@@ -78,7 +78,7 @@ module _ (profile : Profile) (read : Read) (d : Doc) (before : List ℕ) (tree :
       where
         by : (front : List Change) (c : Change) → cs ≡ front ++ c ∷ [] → ArePlain profile front (manner_of layout d.lines) before
             → (between : List ℕ) → AreWritten profile front (manner_of layout d.lines) before between
-            → (e : Doc) → SpellsIn profile e between → IsInLine e.lines c
+            → (e : Doc) → SpellsIn profile e between → IsInContainer e.lines c
             → (ts : List Standing) × ChangesLines layout profile c (standing e.lines) ts × (out ≡ e.mark.text ++ standing_text ts)
         by front c is plain between written e spells there =
             let first = at old facts in

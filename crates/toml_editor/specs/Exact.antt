@@ -23,7 +23,7 @@ use Rattle.toml_editor.specs.declared.fault.EditorFault.TheVariants.{Edit, LastE
 use Rattle.toml_working.specs.declared.working.Tree.{Tree}
 use Rattle.toml_working.specs.Becoming.{TreeRenames}
 use Rattle.toml_editor.specs.CertifiedLists.{ArePlain}
-use Rattle.toml_editor.specs.LastTexts.{ChangesLines, IsInLine}
+use Rattle.toml_editor.specs.LastTexts.{ChangesLines, IsInContainer}
 use Rattle.toml_layout.specs.declared.tree.Value.{Value as OpenValue}
 use Rattle.toml_layout.specs.Holding.{PutsHeld}
 use Rattle.toml_layout.specs.OpenOutlines.{leaf_text, value as open_outline}
@@ -105,8 +105,8 @@ pub record WritesRename (read : Read) (p : Address) (to : List ℕ) (old new : T
   pub whole : NoneIsGone new.elements
 
 -- What an edit makes of the working tree, where no element is gone: a `set` puts the value in, if one stands there, and tells whether;
--- an `insert` of a name at the root, or in a table that has a header, puts its line in, a `remove` takes out the line of a value where the
--- table right above stays, a `rename` gives lines the new name. Where an array or an inline table in the value of a line holds it, an `insert` and a
+-- an `insert` of a name at the root, or in a table that has a header, puts its line in, a `remove` takes out the line of a value, or makes it the
+-- empty table right above where that would go with it, a `rename` gives lines the new name. Where an array or an inline table in the value of a line holds it, an `insert` and a
 -- `remove` change that.
 abbrev pub WritesEdit : Profile → Read → Change → Tree → Tree → Bool → Type 0
 WritesEdit profile read (set p text) old new done = NoneIsGone old.elements → KeepsRest old new × WritesSet profile read p text old new done
@@ -157,7 +157,7 @@ PassesAll profile read cs near n tree = (k : ℕ) → k < n → PassesAt profile
 -- of an edit that changes an array or an inline table in the value of a line: the tree then stands for what that makes of the lines
 abbrev pub HoldsOne : Profile → Read → Change → Tree → Tree → Type 0
 HoldsOne profile read c old new = (text : List ℕ) (kinds now : Kinds) → (at : IsAt profile read old text kinds) → IsAfter profile c kinds now
-    → IsInLine at.good.tree.lines c
+    → IsInContainer at.good.tree.lines c
     → (ts : List Standing) × Stands (text_of old.texts.source) read new.slots.items ts
     × ChangesLines (manner old).layout profile c (standing at.good.tree.lines) ts
 
@@ -165,7 +165,7 @@ HoldsOne profile read c old new = (text : List ℕ) (kinds now : Kinds) → (at 
 abbrev pub HoldsLast : Profile → Read → List Change → Tree → Tree → Type 0
 HoldsLast profile read cs old new = (front : List Change) (c : Change) → cs ≡ front ++ c ∷ [] → (text : List ℕ) (kinds mid now : Kinds)
     → IsAt profile read old text kinds → Lead profile front kinds mid → IsAfter profile c mid now → ArePlain profile front (manner old) text
-    → (between : List ℕ) → AreWritten profile front (manner old) text between → (e : Doc) → SpellsIn profile e between → IsInLine e.lines c
+    → (between : List ℕ) → AreWritten profile front (manner old) text between → (e : Doc) → SpellsIn profile e between → IsInContainer e.lines c
     → (ts : List Standing) × Stands (text_of old.texts.source) read new.slots.items ts
     × ChangesLines (manner old).layout profile c (standing e.lines) ts
 

@@ -15,16 +15,17 @@ use Rattle.toml_edits.specs.After.{IsAfter}
 use Rattle.toml_edits.specs.Edits.{remove}
 use Rattle.toml_editor.specs.Blocks.{IsPut, value_block, named_plain}
 use Rattle.toml_working.specs.Removing.{empty_table, left_of_line, remove_lines}
-use Rattle.toml_working.specs.RemoveStanding.{above, leaves_above}
+use Rattle.toml_working.specs.RemoveStanding.{leaves_parent}
+use Rattle.toml_layout.specs.Holders.{parent_of}
 use Rattle.toml_working.specs.Standing.{standing}
 use Rattle.toml_working.specs.Written.{HasLine}
 
 -- a line has the value there, and the table right above that stays without the line, or it does not
 abbrev pub LeavesTable : List Line → Address → Type 0
-LeavesTable lines p = HasLine lines p × (leaves_above p (standing lines) ≡ true)
+LeavesTable lines p = HasLine lines p × (leaves_parent p (standing lines) ≡ true)
 
 abbrev pub TakesTable : List Line → Address → Type 0
-TakesTable lines p = HasLine lines p × (leaves_above p (standing lines) ≡ false)
+TakesTable lines p = HasLine lines p × (leaves_parent p (standing lines) ≡ false)
 
 -- Laws. Where that table stays, the old lines name what the new ones do, the tables of a key that leads to the value, and the value;
 abbrev pub RemoveNames : Type 0
@@ -37,8 +38,8 @@ pub record IsEmptied (p : Address) (old new : List Named) : Type 0 where
   pub value : Value
   pub front : List Named
   pub back : List Named
-  pub before : old ≡ front ++ ((table_at 0 Dotted (above p) ∷ value_block p value) ++ back)
-  pub after : new ≡ front ++ (value_named 0 Valued (above p) empty_table ∷ back)
+  pub before : old ≡ front ++ ((table_at 0 Dotted (parent_of p) ∷ value_block p value) ++ back)
+  pub after : new ≡ front ++ (value_named 0 Valued (parent_of p) empty_table ∷ back)
 
 abbrev pub EmptyNames : Type 0
 EmptyNames = (p : Address) (lines : List Line) → TakesTable lines p → KeepsRules (named lines)
@@ -73,4 +74,4 @@ HasValueAt p earlier (ArrayTableLine ws header tail) = ⊥
 abbrev pub RemoveKeepsLines : Type 0
 RemoveKeepsLines = (p : Address) (lines : List Line) → HasLine lines p → KeepsRules (named lines)
     → (front : List Line) × (l : Line) × (back : List Line) × (lines ≡ front ++ l ∷ back) × HasValueAt p (named front) l.expr
-    × (remove_lines p lines ≡ front ++ (left_of_line p (leaves_above p (standing lines)) (length (section (named front))) l ++ back))
+    × (remove_lines p lines ≡ front ++ (left_of_line p (leaves_parent p (standing lines)) (length (section (named front))) l ++ back))

@@ -16,7 +16,7 @@ use Rattle.toml_working.specs.Manners.{Manner}
 use Rattle.toml_working.specs.Removing.{empty_table, remove_lines}
 use Rattle.toml_layout.specs.Spacings.{Spacing, plain_spacing}
 use Rattle.toml_editor.specs.RemoveLaws.{LeavesTable, TakesTable}
-use Rattle.toml_working.specs.RemoveStanding.{above}
+use Rattle.toml_layout.specs.Holders.{parent_of}
 use Rattle.toml_working.specs.Written.{HasSection}
 
 -- a keyval line: itself, what lies in its value, and its comment; to the table in which it stands lead so many steps
@@ -76,4 +76,4 @@ abbrev pub EmptyUnits : Type 0
 EmptyUnits = (p : Address) (lines : List Line) → TakesTable lines p → KeepsRules (named lines)
     → (piece next : Piece) × (base : ℕ) × (v : Value) × (comment : Option Piece) × (front back : List TextUnit)
     × (units lines ≡ front ++ (pair_line_units piece p base v comment ++ back))
-    × (units (remove_lines p lines) ≡ front ++ (pair_line_units next (above p) base empty_table None ++ back))
+    × (units (remove_lines p lines) ≡ front ++ (pair_line_units next (parent_of p) base empty_table None ++ back))

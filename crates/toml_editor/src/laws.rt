@@ -219,8 +219,8 @@ pub fn written_out()
     ensures text { TextIsWritten }
 {}
 
-/// What an edit makes that changes an array or an inline table in the value of a line, or takes such a value out, is one thing in a layout,
-/// of lines that are as the table rules have them: so it has one text.
+/// What an edit makes that changes an array or an inline table in the value of a line is one thing in a layout, of lines that are as the
+/// table rules have them: so it has one text.
 pub fn one_change()
     ensures { OneChange }
 {}

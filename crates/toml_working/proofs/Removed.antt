@@ -17,8 +17,8 @@ use Rattle.toml_working.specs.declared.lines.Slot.TheVariants as slots
 use Rattle.toml_working.specs.Becoming.{BodyBecomes}
 use Rattle.toml_working.specs.OpeningLines.{HasOutline, alone}
 use Rattle.toml_working.specs.Putting.{LineIsLast}
-use Rattle.toml_working.specs.RemoveStanding.{empty_standing, left_by, left_standing, makes, parts_to}
-use Rattle.toml_working.specs.RemovingIn.{LeavesBehind, LeavesLines, LeavesSlot, LinesKept, lines_of, stays_behind, stays_past, take_one, take_out}
+use Rattle.toml_working.specs.RemoveStanding.{empty_standing, left_of_pair, left_standing, makes, parts_to}
+use Rattle.toml_working.specs.RemovingIn.{LeavesBehind, LeavesLines, LeavesSlot, LinesKept, lines_of, stays_behind, stays_past, left_of_one, left_of_all}
 use Rattle.toml_working.specs.Standing.{Standing, Read, body_outline, is_below, lies_below, line_standing}
 use Rattle.toml_working.specs.Stands.{BodyKept, OpensSlot}
 use Rattle.toml_working.proofs.Turned.{opened_kept, opened_standing}
@@ -48,7 +48,7 @@ stood_for texts lines q stays l now gone made base address becomes read same kep
       (kept_now, tt),
       ap₂ (λ a b. record { address = a; base = b; outline = body_outline read now.body } ∷ []) address base
           ∙ ap (λ o. record { address = Some q; base = l.base; outline = o } ∷ []) outline
-          ∙ ap₂ (λ s m. left_by q (s || not m) (line_standing read l)) (sym gone) (sym made),
+          ∙ ap₂ (λ s m. left_of_pair q (s || not m) (line_standing read l)) (sym gone) (sym made),
       ap₂ (λ s m. s || m) (sym gone) (sym made),
     )
 
@@ -61,7 +61,7 @@ last_leaves texts lines q stays l e last goes tells is address base (o, opened, 
       (subst (BodyKept (text_of texts.source) read) (sym opened) tt, tt),
       ap₂ (λ a b. record { address = a; base = b; outline = body_outline read e.body } ∷ []) address base
           ∙ ap (λ x. record { address = None; base = None; outline = x } ∷ []) (ap (body_outline read) opened ∙ outlined)
-          ∙ ap (λ b. cond b (empty_standing ∷ []) []) (sym no_bytes) ∙ ap (λ b. left_by q b (line_standing read l)) (sym goes),
+          ∙ ap (λ b. cond b (empty_standing ∷ []) []) (sym no_bytes) ∙ ap (λ b. left_of_pair q b (line_standing read l)) (sym goes),
       keeps_on stays (makes q l.base l.address) goes,
     )
 
@@ -71,7 +71,7 @@ pub other_leaves : (texts : Texts) (lines : List tree.Line) (q : Address) (stays
 other_leaves texts lines q stays l last goes tells is read same kept = (
   tt,
   ap (λ b. cond b (empty_standing ∷ []) []) (sym (some (body_outline read l.body).newline (tells (text_of texts.source) read kept).1))
-      ∙ ap (λ b. left_by q b (line_standing read l)) (sym goes),
+      ∙ ap (λ b. left_of_pair q b (line_standing read l)) (sym goes),
   keeps_on stays (makes q l.base l.address) goes,
 )
   where
@@ -86,9 +86,9 @@ pub below_leaves : (texts : Texts) (lines : List tree.Line) (p q : Address) (sta
 below_leaves texts lines p q stays then_stays l left below leaves read same kept =
     let (kept_left, is, after) = leaves read same kept.0 in
     let s = line_standing read l in
-    let its = left_by q (stays || not (makes q l.base l.address)) s in (
+    let its = left_of_pair q (stays || not (makes q l.base l.address)) s in (
       kept_left,
-      is ∙ ap (λ b. cond b its (s ∷ [])) (sym below) ∙ sym (append-nil (take_one p q stays s)),
+      is ∙ ap (λ b. cond b its (s ∷ [])) (sym below) ∙ sym (append-nil (left_of_one p q stays s)),
       after ∙ ap (λ b. stays || (b && makes q l.base l.address)) (sym below),
     )
 
@@ -96,20 +96,20 @@ pub apart_stays : (texts : Texts) (lines : List tree.Line) (p q : Address) (stay
     → LeavesLines texts lines p q stays stays (l ∷ []) (l ∷ [])
 apart_stays texts lines p q stays l apart read same kept =
     let s = line_standing read l in
-    let its = left_by q (stays || not (makes q l.base l.address)) s in (
+    let its = left_of_pair q (stays || not (makes q l.base l.address)) s in (
       kept,
-      ap (λ b. cond b its (s ∷ [])) (sym apart) ∙ sym (append-nil (take_one p q stays s)),
+      ap (λ b. cond b its (s ∷ [])) (sym apart) ∙ sym (append-nil (left_of_one p q stays s)),
       sym (or_false stays) ∙ ap (λ b. stays || (b && makes q l.base l.address)) (sym apart),
     )
 
 -- ---- lines behind others
 
 pub out_append : (p q : Address) (stays : Bool) (xs ys : List Standing)
-    → take_out p q stays (xs ++ ys) ≡ take_out p q stays xs ++ take_out p q (stays_behind p q stays xs) ys
+    → left_of_all p q stays (xs ++ ys) ≡ left_of_all p q stays xs ++ left_of_all p q (stays_behind p q stays xs) ys
 out_append p q stays [] ys = refl
 out_append p q stays (x ∷ xs) ys =
-    ap (λ r. take_one p q stays x ++ r) (out_append p q (stays_past p q stays x) xs ys)
-    ∙ sym (append_assoc (take_one p q stays x) (take_out p q (stays_past p q stays x) xs) _)
+    ap (λ r. left_of_one p q stays x ++ r) (out_append p q (stays_past p q stays x) xs ys)
+    ∙ sym (append_assoc (left_of_one p q stays x) (left_of_all p q (stays_past p q stays x) xs) _)
 
 pub behind_append : (p q : Address) (stays : Bool) (xs ys : List Standing)
     → stays_behind p q stays (xs ++ ys) ≡ stays_behind p q (stays_behind p q stays xs) ys
@@ -128,8 +128,8 @@ more_left texts lines p q stays mid then_stays old now new l left so_far here is
     let both = map-append f old (l ∷ []) in (
       subst (LinesKept (text_of texts.source) read) is (each_append P now left kept_now kept_left),
       ap (map f) (sym is) ∙ map-append f now left ∙ ap₂ (λ a b. a ++ b) now_is left_is
-          ∙ ap (λ b. take_out p q stays (map f old) ++ take_out p q b (f l ∷ [])) mid_is
-          ∙ sym (out_append p q stays (map f old) (f l ∷ [])) ∙ ap (take_out p q stays) (sym both),
+          ∙ ap (λ b. left_of_all p q stays (map f old) ++ left_of_all p q b (f l ∷ [])) mid_is
+          ∙ sym (out_append p q stays (map f old) (f l ∷ [])) ∙ ap (left_of_all p q stays) (sym both),
       after ∙ ap (λ b. stays_behind p q b (f l ∷ [])) mid_is ∙ sym (behind_append p q stays (map f old) (f l ∷ []))
           ∙ ap (stays_behind p q stays) (sym both),
     )
@@ -143,4 +143,4 @@ pub slot_leaves : (texts : Texts) (read : Read) (p q : Address) (stays then_stay
     → LeavesSlot texts read p q stays old (slots.Lines made)
 slot_leaves texts read p q stays then_stays old mid lines made opens is leaves kept =
     let (kept_now, left, after) = leaves read refl (opened_kept (text_of texts.source) read old mid lines opens is kept) in
-    (kept_now, left ∙ ap (take_out p q stays) (opened_standing read old mid lines opens is))
+    (kept_now, left ∙ ap (left_of_all p q stays) (opened_standing read old mid lines opens is))

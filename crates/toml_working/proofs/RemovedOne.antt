@@ -16,8 +16,9 @@ use Rattle.toml_working.specs.declared.lines.Sought.TheVariants as sought
 use Rattle.toml_working.specs.declared.working.Position.{Position}
 use Rattle.toml_working.specs.declared.working.Tree.{Tree}
 use Rattle.toml_working.specs.InValues.{IsParent}
-use Rattle.toml_working.specs.RemoveStanding.{above, is_pair, is_undotted_at, is_undotted_pair, is_value_at, leaves_above, left_by, makes, makes_beside, remove_one, remove_standing}
-use Rattle.toml_working.specs.RemovingIn.{LeavesSlot, RemovesLines, TakesOutLine, TellsStays, base_of, stays_behind, stays_past, steps_or_zero, take_out}
+use Rattle.toml_working.specs.RemoveStanding.{is_pair, is_undotted_at, is_undotted_pair, is_value_at, leaves_parent, left_of_pair, makes, makes_beside, removed_one, remove_standing}
+use Rattle.toml_layout.specs.Holders.{parent_of}
+use Rattle.toml_working.specs.RemovingIn.{LeavesSlot, RemovesLines, TakesOutLine, TellsStays, base_of, stays_behind, stays_past, steps_or_zero, left_of_all}
 use Rattle.toml_working.specs.Seeing.{HoldsNone, IsSoughtAt, line_at, steps_of, steps_to}
 use Rattle.toml_working.specs.Standing.{Standing, Read, StandAlone, covers, covers_at, holds, is_below, leads_to, lies_below, slot_standing, slots_standing}
 use Rattle.toml_layout.specs.Beginnings.{begins}
@@ -99,37 +100,37 @@ holder_is p front s back leads apart there =
 
 -- lines that stand elsewhere stay, and so does the table
 apart_stay : (p q : Address) (stays : Bool) (xs : List Standing) → EachIs (λ t. is_below p t ≡ false) xs
-    → (take_out p q stays xs ≡ xs) × (stays_behind p q stays xs ≡ stays)
+    → (left_of_all p q stays xs ≡ xs) × (stays_behind p q stays xs ≡ stays)
 apart_stay p q stays [] h = (refl, refl)
 apart_stay p q stays (x ∷ xs) h =
     let past : stays_past p q stays x ≡ stays = ap (λ b. stays || (b && makes q x.base x.address)) h.0 ∙ or_none stays in
     let (more, same) = apart_stay p q stays xs h.1 in (
-      ap₂ (λ b r. cond b (left_by q (stays || not (makes q x.base x.address)) x) (x ∷ []) ++ r) h.0 (ap (λ b. take_out p q b xs) past ∙ more),
+      ap₂ (λ b r. cond b (left_of_pair q (stays || not (makes q x.base x.address)) x) (x ∷ []) ++ r) h.0 (ap (λ b. left_of_all p q b xs) past ∙ more),
       ap (λ b. stays_behind p q b xs) past ∙ same,
     )
 
 -- so one line alone is taken out
 one_taken : (p q : Address) (stays : Bool) (front : List Standing) (s : Standing) (back : List Standing) → EachIs (λ t. is_below p t ≡ false) front
     → is_below p s ≡ true → EachIs (λ t. is_below p t ≡ false) back
-    → take_out p q stays (front ++ s ∷ back) ≡ front ++ (left_by q (stays || not (makes q s.base s.address)) s ++ back)
+    → left_of_all p q stays (front ++ s ∷ back) ≡ front ++ (left_of_pair q (stays || not (makes q s.base s.address)) s ++ back)
 one_taken p q stays front s back ahead here after =
-    let its = left_by q (stays || not (makes q s.base s.address)) s in
+    let its = left_of_pair q (stays || not (makes q s.base s.address)) s in
     let (first, same) = apart_stay p q stays front ahead in
     out_append p q stays front (s ∷ back)
-    ∙ ap₂ (λ xs b. xs ++ take_out p q b (s ∷ back)) first same
+    ∙ ap₂ (λ xs b. xs ++ left_of_all p q b (s ∷ back)) first same
     ∙ ap₂ (λ b r. front ++ (cond b its (s ∷ []) ++ r)) here (apart_stay p q (stays_past p q stays s) back after).0
 
 -- by the definition, too
-others_stay : (p : Address) (stays : Bool) (xs : List Standing) → EachIs (λ t. is_pair p t ≡ false) xs → flat_map (remove_one p stays) xs ≡ xs
+others_stay : (p : Address) (stays : Bool) (xs : List Standing) → EachIs (λ t. is_pair p t ≡ false) xs → flat_map (removed_one p stays) xs ≡ xs
 others_stay p stays [] h = refl
-others_stay p stays (x ∷ xs) h = ap₂ (λ b r. cond b (left_by (above p) stays x) (x ∷ []) ++ r) h.0 (others_stay p stays xs h.1)
+others_stay p stays (x ∷ xs) h = ap₂ (λ b r. cond b (left_of_pair (parent_of p) stays x) (x ∷ []) ++ r) h.0 (others_stay p stays xs h.1)
 
 one_removed : (p : Address) (stays : Bool) (front : List Standing) (s : Standing) (back : List Standing) → EachIs (λ t. is_pair p t ≡ false) front
     → is_pair p s ≡ true → EachIs (λ t. is_pair p t ≡ false) back
-    → flat_map (remove_one p stays) (front ++ s ∷ back) ≡ front ++ (left_by (above p) stays s ++ back)
-one_removed p stays [] s back ahead here after = ap₂ (λ b r. cond b (left_by (above p) stays s) (s ∷ []) ++ r) here (others_stay p stays back after)
+    → flat_map (removed_one p stays) (front ++ s ∷ back) ≡ front ++ (left_of_pair (parent_of p) stays s ++ back)
+one_removed p stays [] s back ahead here after = ap₂ (λ b r. cond b (left_of_pair (parent_of p) stays s) (s ∷ []) ++ r) here (others_stay p stays back after)
 one_removed p stays (x ∷ front) s back ahead here after =
-    ap₂ (λ b r. cond b (left_by (above p) stays x) (x ∷ []) ++ r) ahead.0 (one_removed p stays front s back ahead.1 here after)
+    ap₂ (λ b r. cond b (left_of_pair (parent_of p) stays x) (x ∷ []) ++ r) ahead.0 (one_removed p stays front s back ahead.1 here after)
 
 -- the lines that are left, those of one slot changed
 regrouped : (before front left back behind : List Standing) → before ++ ((front ++ (left ++ back)) ++ behind) ≡ (before ++ front) ++ (left ++ (back ++ behind))
@@ -201,8 +202,8 @@ undotted_here p front s back ahead after =
     none_there [] h = refl
     none_there (t ∷ ts) h = ap₂ (λ a b. a || b) (not_here t h.0 (is_undotted_pair p t) refl) (none_there ts h.1)
 
-above_is : (q : Address) (last : Step) → above (q ++ last ∷ []) ≡ q
-above_is q last =
+parent_is : (q : Address) (last : Step) → parent_of (q ++ last ∷ []) ≡ q
+parent_is q last =
     let long : length (q ++ last ∷ []) ≡ length q + 1 = length-append q (last ∷ []) in
     let less : length (q ++ last ∷ []) - 1 ≡ length q = omega (arith, long) in
     ap (λ n. take n (q ++ last ∷ [])) less ∙ take-append-le (length q) q (last ∷ []) (omega arith) ∙ take_all (length q) q (omega arith)
@@ -237,12 +238,12 @@ same_left n q last s stays made some base own is made_is =
 -- what is left of the slot of that line
 placed_goes : (p q : Address) (last : Step) (stays : Bool) (read : Read) (old now : List Slot) (at : Position) (ss : List Standing) (t : Slot)
     (h : IsPlaced p read old at ss) → p ≡ q ++ last ∷ [] → slots_standing read old ≡ ss → TellsStays p q read old at stays → now ≡ set old at.slot t
-    → slot_standing read t ≡ take_out p q stays (slot_standing read h.slot) → slots_standing read now ≡ remove_standing p ss
+    → slot_standing read t ≡ left_of_all p q stays (slot_standing read h.slot) → slots_standing read now ≡ remove_standing p ss
 placed_goes p q last stays read old now at ss t h is are tells put left =
     let no_pairs : (xs : List Standing) → EachIs (λ x. is_below p x ≡ false) xs → EachIs (λ x. is_pair p x ≡ false) xs =
     λ xs. each_weaker (λ x. is_below p x ≡ false) (λ x. is_pair p x ≡ false) (λ x k. no_pair p x.base x.address k) xs in
-    let its = left_by q (stays || not (makes q h.line.base h.line.address)) h.line in
-    let slot_left = left ∙ ap (take_out p q stays) h.own
+    let its = left_of_pair q (stays || not (makes q h.line.base h.line.address)) h.line in
+    let slot_left = left ∙ ap (left_of_all p q stays) h.own
     ∙ one_taken p q stays h.front h.line h.back (each_back _ h.before h.front h.ahead) (pair_below p h.line h.pair) (each_front _ h.back h.behind h.after) in
     let (n, base) = pair_base p h.line.base h.line.address h.pair in
     let own = pair_address p h.line.base h.line.address h.pair ∙ ap Some is in
@@ -250,15 +251,15 @@ placed_goes p q last stays read old now at ss t h is are tells put left =
     ∙ ap (λ b. not (nat_lt (steps_or_zero b) (length q)) || list_any (makes_beside q p) ss) base in
     let some = same_left n q last h.line stays _ (list_any (makes_beside q p) ss) base own told refl in
     let undotted = undotted_here p (h.before ++ h.front) h.line (h.back ++ h.behind) h.ahead h.after in
-    let same : (stays || not (makes q h.line.base h.line.address)) ≡ leaves_above p ss =
+    let same : (stays || not (makes q h.line.base h.line.address)) ≡ leaves_parent p ss =
     some
     ∙ ap₂ (λ a b. a || list_any (makes_beside b p) ss)
-    (ap (λ x. is_undotted_pair x h.line) (sym is) ∙ sym undotted ∙ ap (list_any (is_undotted_pair p)) (sym h.all)) (sym (ap above is ∙ above_is q last)) in
+    (ap (λ x. is_undotted_pair x h.line) (sym is) ∙ sym undotted ∙ ap (list_any (is_undotted_pair p)) (sym h.all)) (sym (ap parent_of is ∙ parent_is q last)) in
     ap (slots_standing read) put ∙ h.set_to t ∙ ap (λ r. h.before ++ (r ++ h.behind)) slot_left
     ∙ regrouped h.before h.front its h.back h.behind
-    ∙ ap (λ r. (h.before ++ h.front) ++ (r ++ (h.back ++ h.behind))) (ap₂ (λ a b. left_by a b h.line) (sym (ap above is ∙ above_is q last)) same)
-    ∙ sym (one_removed p (leaves_above p ss) (h.before ++ h.front) h.line (h.back ++ h.behind) (no_pairs _ h.ahead) h.pair (no_pairs _ h.after))
-    ∙ ap (flat_map (remove_one p (leaves_above p ss))) (sym h.all)
+    ∙ ap (λ r. (h.before ++ h.front) ++ (r ++ (h.back ++ h.behind))) (ap₂ (λ a b. left_of_pair a b h.line) (sym (ap parent_of is ∙ parent_is q last)) same)
+    ∙ sym (one_removed p (leaves_parent p ss) (h.before ++ h.front) h.line (h.back ++ h.behind) (no_pairs _ h.ahead) h.pair (no_pairs _ h.after))
+    ∙ ap (flat_map (removed_one p (leaves_parent p ss))) (sym h.all)
   where
     pair_base : (a : Address) (base : Option ℕ) (own : Option Address) → is_value_at a base own ≡ true → (n : ℕ) × (base ≡ Some n)
     pair_base a None own e = cc

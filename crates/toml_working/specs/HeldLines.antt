@@ -81,4 +81,3 @@ HeldIsInside = (p : Address) (ss : List Standing) → list_any (has_container_at
 -- Law: what is so held is no line's own value, of lines as the table rules have them.
 abbrev pub HeldIsNoLine : Type 0
 HeldIsNoLine = (p : Address) (ss : List Standing) → AreOrdered ss → list_any (has_container_at p) ss ≡ true → list_any (is_pair p) ss ≡ true → ⊥
-

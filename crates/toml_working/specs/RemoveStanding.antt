@@ -1,10 +1,11 @@
 -- `remove` of a value of a line, on lines by what finds them: the line goes, and a last line leaves one of no bytes. Where the table right
 -- above the value would go with it, the line comes to stand for that table, which is empty.
-use Rattle.std.specs.Prelude.{ℕ, ◌-◌, Bool, true, false, ◌&&◌, ◌||◌, not, List, [], ◌∷◌, length, take, flat_map, ◌==◌, if◌then◌else◌, Option, Some, None}
+use Rattle.std.specs.Prelude.{ℕ, ◌-◌, Bool, true, false, ◌&&◌, ◌||◌, not, List, [], ◌∷◌, length, flat_map, ◌==◌, if◌then◌else◌, Option, Some, None}
 use Rattle.std.specs.Bool.{nat_lt}
 use Rattle.std.specs.List.{list_any}
 use Rattle.toml_names.specs.model.Addresses.{Address, same_address}
 use Rattle.toml_layout.specs.Emptying.{line_emptied}
+use Rattle.toml_layout.specs.Holders.{parent_of}
 use Rattle.toml_layout.specs.Outlines.{no_line}
 use Rattle.toml_working.specs.RenameStanding.{names_in}
 use Rattle.toml_working.specs.Seeing.{is_dotted, heads_below}
@@ -47,14 +48,10 @@ makes_apart q p base own = makes q base own && not (lies_below p own)
 abbrev pub makes_beside : Address → Address → Standing → Bool
 makes_beside q p s = makes_apart q p s.base s.address
 
--- the address right above
-abbrev pub above : Address → Address
-above p = take (length p - 1) p
-
 -- whether the table right above the value stays without the line of the value: the line stands in it, since the key is not dotted, or another
 -- line makes it
-abbrev pub leaves_above : Address → List Standing → Bool
-leaves_above p ss = list_any (is_undotted_pair p) ss || list_any (makes_beside (above p) p) ss
+abbrev pub leaves_parent : Address → List Standing → Bool
+leaves_parent p ss = list_any (is_undotted_pair p) ss || list_any (makes_beside (parent_of p) p) ss
 
 -- how many parts of its key lead from a line with this base to the address: the steps behind the base, or the names of a header
 abbrev pub parts_to : Address → Option ℕ → ℕ
@@ -62,17 +59,17 @@ parts_to q None = names_in q
 parts_to q (Some n) = length q - n
 
 -- a line that comes to stand for the table at the address, which is empty
-abbrev pub emptied : Address → Standing → Standing
-emptied q s = record { address = Some q; base = s.base; outline = line_emptied (parts_to q s.base) s.outline }
+abbrev pub standing_emptied : Address → Standing → Standing
+standing_emptied q s = record { address = Some q; base = s.base; outline = line_emptied (parts_to q s.base) s.outline }
 
 -- what is left of a line, where the table at the address stays without it, or does not
-abbrev pub left_by : Address → Bool → Standing → List Standing
-left_by q true s = left_standing s
-left_by q false s = emptied q s ∷ []
+abbrev pub left_of_pair : Address → Bool → Standing → List Standing
+left_of_pair q true s = left_standing s
+left_of_pair q false s = standing_emptied q s ∷ []
 
 -- the line of the value, or another one
-abbrev pub remove_one : Address → Bool → Standing → List Standing
-remove_one p stays s = if is_pair p s then left_by (above p) stays s else s ∷ []
+abbrev pub removed_one : Address → Bool → Standing → List Standing
+removed_one p stays s = if is_pair p s then left_of_pair (parent_of p) stays s else s ∷ []
 
 abbrev pub remove_standing : Address → List Standing → List Standing
-remove_standing p ss = flat_map (remove_one p (leaves_above p ss)) ss
+remove_standing p ss = flat_map (removed_one p (leaves_parent p ss)) ss

@@ -7,7 +7,8 @@ use Rattle.toml_names.specs.model.Addresses.{Address, same_address, below}
 use Rattle.toml_names.specs.mentions.Keys.{key_names}
 use Rattle.toml_names.specs.mentions.Mentions.{Named, section}
 use Rattle.toml_working.specs.Lines.{each_line, inline_of}
-use Rattle.toml_working.specs.RemoveStanding.{above, leaves_above}
+use Rattle.toml_working.specs.RemoveStanding.{leaves_parent}
+use Rattle.toml_layout.specs.Holders.{parent_of}
 use Rattle.toml_working.specs.Standing.{standing}
 
 -- no whitespace, and no comment
@@ -44,7 +45,7 @@ emptied_line parts l = record { expr = emptied_expr parts l.expr; newline = l.ne
 -- what is left of the line of the value, in a table of so many steps; the table right above the value stays without it, or does not
 abbrev pub left_of_line : Address → Bool → ℕ → Line → List Line
 left_of_line p true base l = left_behind l
-left_of_line p false base l = emptied_line (length (above p) - base) l ∷ []
+left_of_line p false base l = emptied_line (length (parent_of p) - base) l ∷ []
 
 abbrev pub remove_line : Address → Bool → List Named → Line → List Line
 remove_line p stays earlier l = elim l.expr [
@@ -58,4 +59,4 @@ abbrev pub lines_left : Address → Bool → List Line → List Line
 lines_left p stays = each_line (remove_line p stays)
 
 abbrev pub remove_lines : Address → List Line → List Line
-remove_lines p lines = lines_left p (leaves_above p (standing lines)) lines
+remove_lines p lines = lines_left p (leaves_parent p (standing lines)) lines

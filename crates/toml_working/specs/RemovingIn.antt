@@ -13,7 +13,7 @@ use Rattle.toml_working.specs.declared.lines.Slot.{Slot}
 use Rattle.toml_working.specs.declared.working.Position.{Position}
 use Rattle.toml_working.specs.declared.working.Tree.{Tree}
 use Rattle.toml_working.specs.InValues.{IsParent}
-use Rattle.toml_working.specs.RemoveStanding.{is_pair, left_by, makes, makes_beside, remove_standing}
+use Rattle.toml_working.specs.RemoveStanding.{is_pair, left_of_pair, makes, makes_beside, remove_standing}
 use Rattle.toml_working.specs.Seeing.{line_at, read_by}
 use Rattle.toml_working.specs.Standing.{Standing, Read, AreOrdered, is_below, line_standing, slot_standing, slots_standing}
 use Rattle.toml_working.specs.Stands.{BodyKept, KeepsRest, SlotKept, Stands}
@@ -26,17 +26,17 @@ abbrev pub lines_of : Option Line → List Line
 lines_of None = []
 lines_of (Some l) = l ∷ []
 
--- A line at the address or below it goes. Where the table above does not stay, the first by which it stands comes to stand for it;
-abbrev pub take_one : Address → Address → Bool → Standing → List Standing
-take_one p q stays s = if is_below p s then left_by q (stays || not (makes q s.base s.address)) s else s ∷ []
+-- A line at the address or below it goes. Where the table above does not stay, a line that makes it comes to stand for it.
+abbrev pub left_of_one : Address → Address → Bool → Standing → List Standing
+left_of_one p q stays s = if is_below p s then left_of_pair q (stays || not (makes q s.base s.address)) s else s ∷ []
 
--- from then on the table stays.
+-- Behind such a line the table stays.
 abbrev pub stays_past : Address → Address → Bool → Standing → Bool
 stays_past p q stays s = stays || (is_below p s && makes q s.base s.address)
 
-abbrev pub take_out : Address → Address → Bool → List Standing → List Standing
-take_out p q stays [] = []
-take_out p q stays (s ∷ ss) = take_one p q stays s ++ take_out p q (stays_past p q stays s) ss
+abbrev pub left_of_all : Address → Address → Bool → List Standing → List Standing
+left_of_all p q stays [] = []
+left_of_all p q stays (s ∷ ss) = left_of_one p q stays s ++ left_of_all p q (stays_past p q stays s) ss
 
 abbrev pub stays_behind : Address → Address → Bool → List Standing → Bool
 stays_behind p q stays [] = stays
@@ -45,20 +45,20 @@ stays_behind p q stays (s ∷ ss) = stays_behind p q (stays_past p q stays s) ss
 -- so it is of lines of the working tree, and whether the table then stays
 abbrev pub LeavesLines : Texts → List tree.Line → Address → Address → Bool → Bool → List Line → List Line → Type 0
 LeavesLines texts lines p q stays then_stays old now = (read : Read) → read.lines ≡ lines → LinesKept (text_of texts.source) read old
-    → LinesKept (text_of texts.source) read now × (map (line_standing read) now ≡ take_out p q stays (map (line_standing read) old))
+    → LinesKept (text_of texts.source) read now × (map (line_standing read) now ≡ left_of_all p q stays (map (line_standing read) old))
     × (then_stays ≡ stays_behind p q stays (map (line_standing read) old))
 
 -- what is left of a line at the address or below it
 abbrev pub LeavesBehind : Texts → List tree.Line → Address → Bool → Bool → Line → Option Line → Type 0
 LeavesBehind texts lines q stays then_stays l left = (read : Read) → read.lines ≡ lines → BodyKept (text_of texts.source) read l.body
     → LinesKept (text_of texts.source) read (lines_of left)
-    × (map (line_standing read) (lines_of left) ≡ left_by q (stays || not (makes q l.base l.address)) (line_standing read l))
+    × (map (line_standing read) (lines_of left) ≡ left_of_pair q (stays || not (makes q l.base l.address)) (line_standing read l))
     × (then_stays ≡ (stays || makes q l.base l.address))
 
 -- what is left of the lines of a slot
 abbrev pub LeavesSlot : Texts → Read → Address → Address → Bool → Slot → Slot → Type 0
 LeavesSlot texts read p q stays old now = SlotKept (text_of texts.source) read old
-    → SlotKept (text_of texts.source) read now × (slot_standing read now ≡ take_out p q stays (slot_standing read old))
+    → SlotKept (text_of texts.source) read now × (slot_standing read now ≡ left_of_all p q stays (slot_standing read old))
 
 -- of those of the slot with the number, while the others stay; or there is none
 abbrev pub LeavesSlots : Texts → Read → Address → Address → Bool → ℕ → List Slot → List Slot → Type 0
@@ -79,11 +79,11 @@ abbrev pub CountsBase : List ReadUnit → List Slot → Position → ℕ → Typ
 CountsBase units slots at result = (lines : List tree.Line) → result ≡ base_of (line_at (read_by units lines) slots at)
 
 -- whether one of the lines makes the table, and stands beside the address
-abbrev pub TellsMade : Address → Address → List ReadUnit → List Slot → Bool → Type 0
-TellsMade q p units slots result = (lines : List tree.Line) → result ≡ list_any (makes_beside q p) (slots_standing (read_by units lines) slots)
+abbrev pub TellsMaker : Address → Address → List ReadUnit → List Slot → Bool → Type 0
+TellsMaker q p units slots result = (lines : List tree.Line) → result ≡ list_any (makes_beside q p) (slots_standing (read_by units lines) slots)
 
-abbrev pub SlotTellsMade : Address → Address → List ReadUnit → Slot → Bool → Type 0
-SlotTellsMade q p units slot result = (lines : List tree.Line) → result ≡ list_any (makes_beside q p) (slot_standing (read_by units lines) slot)
+abbrev pub SlotTellsMaker : Address → Address → List ReadUnit → Slot → Bool → Type 0
+SlotTellsMaker q p units slot result = (lines : List tree.Line) → result ≡ list_any (makes_beside q p) (slot_standing (read_by units lines) slot)
 
 -- whether the table at the other address, right above this one, stays: the line at the place stands in it, or another line makes it
 abbrev pub TellsStays : Address → Address → Read → List Slot → Position → Bool → Type 0

@@ -1,11 +1,11 @@
 //! `remove`: elements and pairs in a value, and lines.
 ghost use Rattle.std.specs.Prelude.{◌≡◌, ◌∷◌, [], IfOk, OnOk};
-ghost use Rattle.toml_working.specs.HeldLines.{TakesFromValue};
-ghost use Rattle.toml_working.specs.InValues.{IsParent};
 ghost use Rattle.std.specs.List.{list_any};
 ghost use Rattle.toml_layout.specs.KnownLines.{lines_known};
+ghost use Rattle.toml_working.specs.HeldLines.{TakesFromValue};
+ghost use Rattle.toml_working.specs.InValues.{IsParent};
 ghost use Rattle.toml_working.specs.RemoveStanding.{makes_apart};
-ghost use Rattle.toml_working.specs.RemovingIn.{LeavesBehind, LeavesLines, LeavesSlot, LeavesSlots, RemovesLines, SlotTellsMade, TakesOutLine, TellsMade, TellsStays, lines_of};
+ghost use Rattle.toml_working.specs.RemovingIn.{LeavesBehind, LeavesLines, LeavesSlot, LeavesSlots, RemovesLines, SlotTellsMaker, TakesOutLine, TellsMaker, TellsStays, lines_of};
 ghost use Rattle.toml_working.specs.Seeing.{IsSoughtAt};
 ghost use Rattle.toml_working.specs.Starting.{read_of};
 ghost use Rattle.toml_working.specs.Stands.{KeepsRest};
@@ -21,7 +21,7 @@ use toml_layout::{Inside, KnownLine, Texts};
 use toml_names::{Address, Place, Step};
 use toml_units::Unit;
 
-/// What is left of the first removed line by which the parent stands, where it stands by no line that stays.
+/// What is left of the first removed line that makes the parent, where no line that stays makes it.
 #[derive(Drop)]
 struct Parent {
     address: Address,
@@ -124,8 +124,8 @@ impl<'x> Tree<'x> {
         Ok(Parent { address, stays })
     }
 
-    /// The parent of the address, and whether it is the root, or stands by a line that is not at the address, nor below it: such a
-    /// line is mostly near before the slot.
+    /// The parent of the address, and whether it is the root, or a line that is not at the address, nor below it, makes it: such a line
+    /// is mostly near before the slot.
     fn parent_left(
         &self,
         before: Before<'_, 'x>,
@@ -138,8 +138,8 @@ impl<'x> Tree<'x> {
         Ok(Parent { address, stays })
     }
 
-    /// Whether what is at the address stands by a line that is not at the other address, nor below it. The slots before this one are
-    /// asked first, the nearest before the others.
+    /// Whether a line that is not at the other address, nor below it, makes what is at the address. The slots before this one are asked
+    /// first, the nearest before the others.
     fn is_made_around(
         &self,
         before: Before<'_, 'x>,
@@ -147,7 +147,7 @@ impl<'x> Tree<'x> {
         address: &Address,
         other: &Address,
     ) -> bool
-        ensures { TellsMade address.now other.now before.entry.units.now self.now.slots.items result }
+        ensures { TellsMaker address.now other.now before.entry.units.now self.now.slots.items result }
     {
         let (above, behind) = self.slots.split_at(slot.min(self.slots.len()));
         is_made_above(above, before.units, address, other)
@@ -168,8 +168,8 @@ impl<'x> Tree<'x> {
         Ok(self.is_made_around(before, first, &array, at))
     }
 
-    /// Takes out all lines at the address and below, of which the slot has the first or comes before it. Where the parent stands by
-    /// no other line, the first of them by which it does becomes the parent as an empty table.
+    /// Takes out all lines at the address and below, of which the slot has the first or comes before it. Where no other line makes the
+    /// parent, the first of them that does becomes the parent as an empty table.
     fn remove_lines(
         &mut self,
         before: Before<'_, 'x>,
@@ -211,9 +211,9 @@ impl<'t> Slot<'t> {
         false
     }
 
-    /// Whether what is at the address stands by a line of it that is not at the other address, nor below it.
+    /// Whether a line of it that is not at the other address, nor below it, makes what is at the address.
     fn is_made(&self, units: &[Unit], address: &Address, other: &Address) -> bool
-        ensures { SlotTellsMade address.now other.now units.now self.now result }
+        ensures { SlotTellsMaker address.now other.now units.now self.now result }
     {
         match self {
             Slot::Kept(kept) => kept.seen(units).makes_beside(address, other),
@@ -240,7 +240,7 @@ impl<'t> Slot<'t> {
     }
 }
 
-/// Whether what is at the address stands by one of the lines that is not at the other address, nor below it.
+/// Whether one of the lines that is not at the other address, nor below it, makes what is at the address.
 fn is_any_made(lines: &[Line<'_>], address: &Address, other: &Address) -> bool
     ensures { result ≡ list_any (λ (l : WorkingLine). makes_apart address.now other.now l.base l.address) lines.now }
 {
@@ -252,10 +252,10 @@ fn is_any_made(lines: &[Line<'_>], address: &Address, other: &Address) -> bool
     false
 }
 
-/// Whether what is at the address stands by a line of the slots that is not at the other address, nor below it. The last slot is asked
+/// Whether a line of the slots that is not at the other address, nor below it, makes what is at the address. The last slot is asked
 /// first.
 fn is_made_above(slots: &[Slot<'_>], units: &[Unit], address: &Address, other: &Address) -> bool
-    ensures { TellsMade address.now other.now units.now slots.now result }
+    ensures { TellsMaker address.now other.now units.now slots.now result }
 {
     for place in (0..slots.len()).rev() {
         if slots[place].is_made(units, address, other) {
@@ -267,7 +267,7 @@ fn is_made_above(slots: &[Slot<'_>], units: &[Unit], address: &Address, other: &
 
 /// The same, the first slot first.
 fn is_made_in(slots: &[Slot<'_>], units: &[Unit], address: &Address, other: &Address) -> bool
-    ensures { TellsMade address.now other.now units.now slots.now result }
+    ensures { TellsMaker address.now other.now units.now slots.now result }
 {
     for slot in slots {
         if slot.is_made(units, address, other) {

@@ -118,8 +118,8 @@ impl Seen<'_> {
         }
     }
 
-    /// Whether the table or the array of tables at the address stands by it: its dotted key makes the table, or it is a header there
-    /// or below.
+    /// Whether it makes the table or the array of tables at the address: by its dotted key, or as a header there or below. Of an array
+    /// so does a header below one of its elements; where there is one, that element's own header is there too.
     pub(crate) fn makes(self, at: &Address) -> bool
         ensures { result ≡ makes at.now self.entry.base (lent self.entry.address) }
     {

@@ -13,14 +13,15 @@ use Rattle.toml_names.specs.mentions.Keys.{Key, key_names, part_name, rest_names
 use Rattle.toml_names.specs.mentions.Mentions.{named, section}
 use Rattle.toml_names.specs.mentions.Rules.{KeepsRules}
 use Rattle.toml_working.specs.Removing.{emptied_line, key_cut, lines_left}
-use Rattle.toml_working.specs.RemoveStanding.{above, is_undotted_pair, leaves_above, makes_beside}
+use Rattle.toml_working.specs.RemoveStanding.{is_undotted_pair, leaves_parent, makes_beside}
+use Rattle.toml_layout.specs.Holders.{parent_of}
 use Rattle.toml_working.specs.Standing.{Standing, line_stands, standing}
 use Rattle.toml_working.specs.Written.{HasLine}
 use Rattle.toml_editor.specs.RemoveLaws.{HasValueAt}
 use Rattle.toml_editor.proofs.written.BelowPlace.{standing_behind}
 use Rattle.toml_editor.proofs.written.Clear.{self}
 use Rattle.toml_editor.proofs.written.RemoveNamed.{lines_part}
-use Rattle.toml_editor.proofs.written.TablesStay.{above_is, any_at}
+use Rattle.toml_editor.proofs.written.TablesStay.{parent_is, any_at}
 
 -- ---- keys
 
@@ -76,10 +77,10 @@ pub record IsEmptying (p : Address) (lines : List Line) : Type 0 where
   pub tail : Blank
   pub newline : Piece
   pub was : lines ≡ front ++ pair_line ws pair tail newline ∷ back
-  pub cut : IsCut pair.assign.key (length (above p) - length (section (named front)))
+  pub cut : IsCut pair.assign.key (length (parent_of p) - length (section (named front)))
   pub at : p ≡ child (below (section (named front)) (cut.first ∷ cut.rest)) cut.last
   pub now : lines_left p false lines
-      ≡ front ++ emptied_line (length (above p) - length (section (named front))) (pair_line ws pair tail newline) ∷ back
+      ≡ front ++ emptied_line (length (parent_of p) - length (section (named front))) (pair_line ws pair tail newline) ∷ back
 
 not_there : (test : Standing → Bool) (front : List Standing) (s : Standing) (back : List Standing) → list_any test (front ++ s ∷ back) ≡ false → test s ≡ false
 not_there test front s back none = by (test s) refl
@@ -95,12 +96,12 @@ either_false false b is = (refl, is)
 less_is : (x y : ℕ) → not (nat_lt x y) ≡ false → x < y
 less_is x y h = let e : x < y = grind (arith, nat_tests, h) in e
 
-pub emptying : (p : Address) (lines : List Line) → HasLine lines p → leaves_above p (standing lines) ≡ false → KeepsRules (named lines) → IsEmptying p lines
+pub emptying : (p : Address) (lines : List Line) → HasLine lines p → leaves_parent p (standing lines) ≡ false → KeepsRules (named lines) → IsEmptying p lines
 emptying p lines there gone keeps =
     let (front, l, back, was, own, now) = lines_part p false lines there keeps in by front l back was own now l.expr refl
   where
     by : (front : List Line) (l : Line) (back : List Line) → lines ≡ front ++ l ∷ back → HasValueAt p (named front) l.expr
-        → lines_left p false lines ≡ front ++ emptied_line (length (above p) - length (section (named front))) l ∷ back
+        → lines_left p false lines ≡ front ++ emptied_line (length (parent_of p) - length (section (named front))) l ∷ back
         → (e : Expr) → l.expr ≡ e → IsEmptying p lines
     by front l back was own now (BlankLine b) is = absurd (subst (HasValueAt p (named front)) is own)
     by front l back was own now (TableLine ws h tail) is = absurd (subst (HasValueAt p (named front)) is own)
@@ -109,7 +110,7 @@ emptying p lines there gone keeps =
         let s = section (named front) in
         let key = key_names pair.assign.key in
         let to : below s key ≡ p = subst (HasValueAt p (named front)) is own in
-        let no_undotted = (either_false (list_any (is_undotted_pair p) (standing lines)) (list_any (makes_beside (above p) p) (standing lines)) gone).0 in
+        let no_undotted = (either_false (list_any (is_undotted_pair p) (standing lines)) (list_any (makes_beside (parent_of p) p) (standing lines)) gone).0 in
         let here : is_undotted_pair p (line_stands (named front) l) ≡ false =
         not_there (is_undotted_pair p) (standing front) (line_stands (named front) l) _
         (ap (list_any (is_undotted_pair p)) (sym (ap standing was ∙ standing_behind front (l ∷ back) [])) ∙ no_undotted) in
@@ -119,8 +120,8 @@ emptying p lines there gone keeps =
         (ap (λ b. b && not (nat_lt (length s) (length p - 1))) (sym (ap (λ a. same_address a p) to ∙ self p)) ∙ sym told ∙ here) in
         let steps : length (map Name key) ≡ length key = length-map key Name in
         let whole : length p ≡ length s + length key = ap length (sym to) ∙ length-append s (map Name key) ∙ ap (λ n. length s + n) steps in
-        let over : length (above p) ≡ length p - 1 = length-take-le (length p - 1) p (omega arith) in
-        let cut = is_cut pair.assign.key (length (above p) - length s) (omega (arith, dotted, whole, over)) (omega (arith, dotted, over)) in
+        let over : length (parent_of p) ≡ length p - 1 = length-take-le (length p - 1) p (omega arith) in
+        let cut = is_cut pair.assign.key (length (parent_of p) - length s) (omega (arith, dotted, whole, over)) (omega (arith, dotted, over)) in
         record {
           front = front;
           back = back;
@@ -132,9 +133,9 @@ emptying p lines there gone keeps =
           cut = cut;
           at = sym to ∙ ap (below s) cut.whole ∙ below_last s (cut.first ∷ cut.rest) cut.last;
           now =
-              now ∙ ap (λ e. front ++ emptied_line (length (above p) - length s) (record { expr = e; newline = l.newline }) ∷ back) is;
+              now ∙ ap (λ e. front ++ emptied_line (length (parent_of p) - length s) (record { expr = e; newline = l.newline }) ∷ back) is;
         }
 
 -- the table right above
-pub right_above : (p : Address) (lines : List Line) (e : IsEmptying p lines) → above p ≡ below (section (named e.front)) (e.cut.first ∷ e.cut.rest)
-right_above p lines e = ap above e.at ∙ above_is (below (section (named e.front)) (e.cut.first ∷ e.cut.rest)) (Name e.cut.last)
+pub right_above : (p : Address) (lines : List Line) (e : IsEmptying p lines) → parent_of p ≡ below (section (named e.front)) (e.cut.first ∷ e.cut.rest)
+right_above p lines e = ap parent_of e.at ∙ parent_is (below (section (named e.front)) (e.cut.first ∷ e.cut.rest)) (Name e.cut.last)

@@ -18,7 +18,7 @@ use Rattle.toml_edits.specs.Carry.{carry, carry_below, nowhere}
 use Rattle.toml_edits.specs.Edits.{remove}
 use Rattle.toml_editor.specs.Blocks.{named_plain, value_block}
 use Rattle.toml_working.specs.Removing.{empty_table, lines_left}
-use Rattle.toml_working.specs.RemoveStanding.{leaves_above}
+use Rattle.toml_working.specs.RemoveStanding.{leaves_parent}
 use Rattle.toml_working.specs.Standing.{standing}
 use Rattle.toml_editor.proofs.Each.{each_append, each_back, each_front, each_weaker}
 use Rattle.toml_editor.proofs.written.Clear.{IsUnder, above_apart}
@@ -31,7 +31,7 @@ use Rattle.toml_editor.proofs.written.RemoveKept.{Apart, apart_beside, removed_b
 use Rattle.toml_editor.proofs.written.SetKept.{F, carried_clear, clear_carried, clear_under}
 use Rattle.toml_editor.proofs.written.Unplain.{each_plain, has_plain, pairs_plain, plain_has, plain_short, rules_plain, short_plain}
 
-module _ (p : Address) (lines : List Line) (e : IsEmptying p lines) (gone : leaves_above p (standing lines) ≡ false) (keeps : KeepsRules (named lines)) where
+module _ (p : Address) (lines : List Line) (e : IsEmptying p lines) (gone : leaves_parent p (standing lines) ≡ false) (keeps : KeepsRules (named lines)) where
   abbrev q : Address
   q = below (section (named e.front)) (e.cut.first ∷ e.cut.rest)
 

@@ -13,7 +13,8 @@ use Rattle.toml_names.specs.mentions.Rules.{KeepsRules}
 use Rattle.toml_names.proofs.Proved.{pairs_leave_alike}
 use Rattle.toml_editor.specs.Blocks.{named_plain, value_block}
 use Rattle.toml_working.specs.Removing.{empty_table, lines_left}
-use Rattle.toml_working.specs.RemoveStanding.{above, is_undotted_pair, leaves_above, makes_beside}
+use Rattle.toml_working.specs.RemoveStanding.{is_undotted_pair, leaves_parent, makes_beside}
+use Rattle.toml_layout.specs.Holders.{parent_of}
 use Rattle.toml_working.specs.Standing.{AreOrdered, Standing, line_stands, standing, standing_from}
 use Rattle.toml_editor.proofs.Each.{each_append, each_weaker}
 use Rattle.toml_editor.proofs.written.Alike.{alike_self, alike_trans}
@@ -75,7 +76,7 @@ grouped ys fs t vs back = simp append_assoc
 grouped_new : (ys fs : List Named) (t : Named) (back : List Named) → ys ++ ((fs ++ t ∷ []) ++ back) ≡ (ys ++ fs) ++ (t ∷ back)
 grouped_new ys fs t back = simp append_assoc
 
-module _ (p : Address) (lines : List Line) (e : IsEmptying p lines) (gone : leaves_above p (standing lines) ≡ false) (keeps : KeepsRules (named lines)) where
+module _ (p : Address) (lines : List Line) (e : IsEmptying p lines) (gone : leaves_parent p (standing lines) ≡ false) (keeps : KeepsRules (named lines)) where
   abbrev s : Address
   s = section (named e.front)
 
@@ -105,7 +106,7 @@ module _ (p : Address) (lines : List Line) (e : IsEmptying p lines) (gone : leav
 
   others : EachIs (IsAway q) (standing e.front) × EachIs (IsAway q) rest_stands
   others =
-      let none = (either_false (list_any (is_undotted_pair p) (standing lines)) (list_any (makes_beside (above p) p) (standing lines)) gone).1 in
+      let none = (either_false (list_any (is_undotted_pair p) (standing lines)) (list_any (makes_beside (parent_of p) p) (standing lines)) gone).1 in
       others_away p q (Name e.cut.last ∷ [], e.at) (line_stands xs l) (ap (λ a. same_address a p) to ∙ self p) (standing e.front) rest_stands
       (subst AreOrdered stands (rules_order lines keeps))
       (subst₂ (λ a ss. list_any (makes_beside a p) ss ≡ false) (right_above p lines e) stands none)

@@ -16,7 +16,8 @@ use Rattle.toml_layout.specs.Emptying as layout
 use Rattle.toml_layout.specs.Outlines.{Pair}
 use Rattle.toml_layout.specs.TreeOutlines.{assign_outline, dotted_outline, line_outline}
 use Rattle.toml_working.specs.Removing.{assign_cut, emptied_line, empty_table, lines_left}
-use Rattle.toml_working.specs.RemoveStanding.{above, emptied, is_pair, leaves_above, left_by, remove_one}
+use Rattle.toml_working.specs.RemoveStanding.{standing_emptied, is_pair, leaves_parent, left_of_pair, removed_one}
+use Rattle.toml_layout.specs.Holders.{parent_of}
 use Rattle.toml_working.specs.Standing.{AreOrdered, Standing, line_stands, standing, standing_from}
 use Rattle.toml_editor.specs.UnitBlocks.{BeginWithLine, pair_line_units}
 use Rattle.toml_editor.proofs.written.Alike.{alike_sym, alike_trans}
@@ -50,15 +51,15 @@ units_behind (l ∷ a) b before =
     ∙ sym (append_assoc (line_units (named before) l.expr) _ _)
 
 -- lines that are no pair of the value stay
-others_stay : (p : Address) (b : Bool) (ss : List Standing) → EachIs (λ t. is_pair p t ≡ false) ss → flat_map (remove_one p b) ss ≡ ss
+others_stay : (p : Address) (b : Bool) (ss : List Standing) → EachIs (λ t. is_pair p t ≡ false) ss → flat_map (removed_one p b) ss ≡ ss
 others_stay p b [] h = refl
-others_stay p b (s ∷ ss) h = ap₂ (λ t r. cond t (left_by (above p) b s) (s ∷ []) ++ r) h.0 (others_stay p b ss h.1)
+others_stay p b (s ∷ ss) h = ap₂ (λ t r. cond t (left_of_pair (parent_of p) b s) (s ∷ []) ++ r) h.0 (others_stay p b ss h.1)
 
 one_emptied : (p : Address) (front : List Standing) (s : Standing) (back : List Standing) → EachIs (λ t. is_pair p t ≡ false) front → is_pair p s ≡ true
-    → EachIs (λ t. is_pair p t ≡ false) back → flat_map (remove_one p false) (front ++ s ∷ back) ≡ front ++ emptied (above p) s ∷ back
-one_emptied p [] s back ahead here after = ap₂ (λ t r. cond t (emptied (above p) s ∷ []) (s ∷ []) ++ r) here (others_stay p false back after)
+    → EachIs (λ t. is_pair p t ≡ false) back → flat_map (removed_one p false) (front ++ s ∷ back) ≡ front ++ standing_emptied (parent_of p) s ∷ back
+one_emptied p [] s back ahead here after = ap₂ (λ t r. cond t (standing_emptied (parent_of p) s ∷ []) (s ∷ []) ++ r) here (others_stay p false back after)
 one_emptied p (x ∷ front) s back ahead here after =
-    ap₂ (λ t r. cond t (emptied (above p) x ∷ []) (x ∷ []) ++ r) ahead.0 (one_emptied p front s back ahead.1 here after)
+    ap₂ (λ t r. cond t (standing_emptied (parent_of p) x ∷ []) (x ∷ []) ++ r) ahead.0 (one_emptied p front s back ahead.1 here after)
 
 -- the units of the line of the value, and of what it comes to
 pub record AreEmptied (q p : Address) (old new : List TextUnit) : Type 0 where
@@ -90,7 +91,7 @@ module _ (p : Address) (lines : List Line) (e : IsEmptying p lines) (keeps : Kee
   n = length e.front
 
   abbrev parts : ℕ
-  parts = length (above p) - length s
+  parts = length (parent_of p) - length s
 
   abbrev l : Line
   l = pair_line e.ws e.pair e.tail e.newline
@@ -101,7 +102,7 @@ module _ (p : Address) (lines : List Line) (e : IsEmptying p lines) (keeps : Kee
   to : below s (key_names e.pair.assign.key) ≡ p
   to = ap (below s) e.cut.whole ∙ below_last s key e.cut.last ∙ sym e.at
 
-  own : below s (key_names (assign_cut parts e.pair.assign).key) ≡ above p
+  own : below s (key_names (assign_cut parts e.pair.assign).key) ≡ parent_of p
   own = ap (below s) e.cut.front ∙ sym (right_above p lines e)
 
   same_outline : line_outline l' ≡ layout.line_emptied parts (line_outline l)
@@ -115,7 +116,7 @@ module _ (p : Address) (lines : List Line) (e : IsEmptying p lines) (keeps : Kee
         newline = e.newline.text;
       }) (sym (take-map dotted_outline (parts - 1) e.pair.assign.key.rest))
 
-  line_is : line_stands xs l' ≡ emptied (above p) (line_stands xs l)
+  line_is : line_stands xs l' ≡ standing_emptied (parent_of p) (line_stands xs l)
   line_is = ap₂ (λ a o. record { address = Some a; base = Some (length s); outline = o }) own same_outline
 
   behind_alike : AreAlike (xs ++ named_by xs n l.expr) (xs ++ named_by xs n l'.expr)
@@ -123,7 +124,7 @@ module _ (p : Address) (lines : List Line) (e : IsEmptying p lines) (keeps : Kee
       alike_trans (xs ++ named_by xs n l.expr) xs (xs ++ named_by xs n l'.expr) (pairs_leave_alike xs n s e.pair.assign e.pair.value)
       (alike_sym (xs ++ named_by xs n l'.expr) xs (pairs_leave_alike xs n s (assign_cut parts e.pair.assign) empty_table))
 
-  pub empty_stands : standing (lines_left p false lines) ≡ flat_map (remove_one p false) (standing lines)
+  pub empty_stands : standing (lines_left p false lines) ≡ flat_map (removed_one p false) (standing lines)
   empty_stands =
       let rest = standing_from (xs ++ named_by xs n l.expr) (n + 1) e.back in
       let stands : standing lines ≡ standing e.front ++ line_stands xs l ∷ rest = ap standing e.was ∙ standing_behind e.front (l ∷ e.back) [] in
@@ -132,9 +133,9 @@ module _ (p : Address) (lines : List Line) (e : IsEmptying p lines) (keeps : Kee
       ap standing e.now ∙ standing_behind e.front (l' ∷ e.back) []
       ∙ ap₂ (λ x r. standing e.front ++ x ∷ r) line_is
       (from_alike e.back (xs ++ named_by xs n l.expr) (xs ++ named_by xs n l'.expr) (n + 1) (n + 1) behind_alike)
-      ∙ sym (ap (flat_map (remove_one p false)) stands ∙ one_emptied p (standing e.front) (line_stands xs l) rest ahead pair after)
+      ∙ sym (ap (flat_map (removed_one p false)) stands ∙ one_emptied p (standing e.front) (line_stands xs l) rest ahead pair after)
 
-  pub units_emptied : AreEmptied (above p) p (units lines) (units (lines_left p false lines))
+  pub units_emptied : AreEmptied (parent_of p) p (units lines) (units (lines_left p false lines))
   units_emptied =
       let rest = units_from (xs ++ named_by xs n l.expr) (n + 1) e.back in
       record {

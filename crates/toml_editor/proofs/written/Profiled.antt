@@ -14,7 +14,8 @@ use Rattle.toml_working.specs.Manners.{Manner}
 use Rattle.toml_working.specs.Lines.{lines_from}
 use Rattle.toml_editor.specs.RemoveLaws.{RemoveOfProfile}
 use Rattle.toml_working.specs.Removing.{emptied_expr, empty_line, left_of_line, remove_line}
-use Rattle.toml_working.specs.RemoveStanding.{above, leaves_above}
+use Rattle.toml_working.specs.RemoveStanding.{leaves_parent}
+use Rattle.toml_layout.specs.Holders.{parent_of}
 use Rattle.toml_working.specs.Standing.{standing}
 use Rattle.toml_editor.specs.RenameLaws.{RenameOfProfile}
 use Rattle.toml_working.specs.Renaming.{rename_value, rename_items, rename_pairs, rename_expr, rename_line}
@@ -108,7 +109,7 @@ emptied_plain parts (TableLine ws header tail) is = tt
 emptied_plain parts (ArrayTableLine ws header tail) is = tt
 
 left_plain : (p : Address) (b : Bool) (n : ℕ) (l : Line) → ExprHasPlainTables l.expr → ArePlain (left_of_line p b n l)
-left_plain p false n l is = (emptied_plain (length (above p) - n) l.expr is, tt)
+left_plain p false n l is = (emptied_plain (length (parent_of p) - n) l.expr is, tt)
 left_plain p true n l is = by (length l.newline.text == 0)
   where
     by : (b : Bool) → ArePlain (cond b (empty_line ∷ []) [])
@@ -126,7 +127,7 @@ remove_plain p b (l ∷ ls) xs n is =
     (remove_plain p b ls (xs ++ named_by xs n l.expr) (n + 1) is.1)
 
 pub remove_of_profile : RemoveOfProfile
-remove_of_profile One p lines is = remove_plain p (leaves_above p (standing lines)) lines (root ∷ []) 0 is
+remove_of_profile One p lines is = remove_plain p (leaves_parent p (standing lines)) lines (root ∷ []) 0 is
 remove_of_profile Two p lines is = tt
 
 -- ---- rename

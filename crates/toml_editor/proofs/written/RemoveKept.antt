@@ -23,7 +23,8 @@ use Rattle.toml_editor.specs.Blocks.{IsPut, value_block, named_plain}
 use Rattle.toml_editor.specs.RemoveLaws.{LeavesTable, RemoveForms}
 use Rattle.toml_working.specs.Lines.{lines_from}
 use Rattle.toml_working.specs.Removing.{emptied_expr, emptied_line, empty_line, left_of_line, lines_left, remove_line}
-use Rattle.toml_working.specs.RemoveStanding.{above, leaves_above}
+use Rattle.toml_working.specs.RemoveStanding.{leaves_parent}
+use Rattle.toml_layout.specs.Holders.{parent_of}
 use Rattle.toml_working.specs.Standing.{standing}
 use Rattle.toml_working.specs.Written.{HasLine}
 use Rattle.toml_editor.proofs.written.BlockFacts.{each_old, has_old, has_new}
@@ -72,11 +73,11 @@ module _ (p : Address) (b : Bool) where
 -- what is left of the last line, and of one before others
 last_formed : (p : Address) (b : Bool) (n : ℕ) (l : Line) → AreLines (l ∷ []) → AreLines (left_of_line p b n l ++ [])
 last_formed p true n l is = subst (λ t. AreLines (cond t (empty_line ∷ []) [] ++ [])) (sym (ap (λ bs. length bs == 0) is.1)) ((tt, tt), refl)
-last_formed p false n l is = (emptied_formed (length (above p) - n) l.expr is.0, is.1)
+last_formed p false n l is = (emptied_formed (length (parent_of p) - n) l.expr is.0, is.1)
 
 left_formed : (p : Address) (b : Bool) (n : ℕ) (l : Line) (ls : List Line) → IsExpr l.expr → IsNewline l.newline.text → AreLines ls → AreLines (left_of_line p b n l ++ ls)
 left_formed p true n l ls e newline rest = subst (λ t. AreLines (cond t (empty_line ∷ []) [] ++ ls)) (sym (newline_some l.newline.text newline)) rest
-left_formed p false n l ls e newline rest = line_before (emptied_line (length (above p) - n) l) ls (emptied_formed (length (above p) - n) l.expr e) newline rest
+left_formed p false n l ls e newline rest = line_before (emptied_line (length (parent_of p) - n) l) ls (emptied_formed (length (parent_of p) - n) l.expr e) newline rest
 
 module _ (p : Address) (b : Bool) where
   lines_formed : (ls : List Line) (xs : List Named) (n : ℕ) → AreLines ls → AreLines (lines_from (remove_line p b) xs n ls)
@@ -95,7 +96,7 @@ module _ (p : Address) (b : Bool) where
       ]
 
 pub remove_forms : RemoveForms
-remove_forms p lines is = lines_formed p (leaves_above p (standing lines)) lines (root ∷ []) 0 is
+remove_forms p lines is = lines_formed p (leaves_parent p (standing lines)) lines (root ∷ []) 0 is
 
 pub left_forms : (p : Address) (b : Bool) (lines : List Line) → AreLines lines → AreLines (lines_left p b lines)
 left_forms p b lines is = lines_formed p b lines (root ∷ []) 0 is

@@ -8,7 +8,7 @@ use Rattle.toml_names.specs.mentions.Mentions.{Named, named_by, root, section}
 use Rattle.toml_names.specs.model.Addresses.{Address, same_address, below}
 use Rattle.toml_names.proofs.Proved.{pairs_leave_alike}
 use Rattle.toml_working.specs.Lines.{lines_from}
-use Rattle.toml_working.specs.RemoveStanding.{empty_standing, left_standing, remove_one}
+use Rattle.toml_working.specs.RemoveStanding.{empty_standing, left_standing, removed_one}
 use Rattle.toml_working.specs.Removing.{empty_line, left_behind, lines_left, remove_line}
 use Rattle.toml_working.specs.Standing.{Standing, line_stands, standing, standing_from}
 use Rattle.toml_layout.specs.TreeOutlines.{line_outline}
@@ -18,7 +18,7 @@ use Rattle.toml_editor.proofs.written.UnitsAlike.{base_alike, own_alike, step_al
 module _ (p : Address) where
   -- the lines without the one of the value
   abbrev taken : List Standing → List Standing
-  taken = flat_map (remove_one p true)
+  taken = flat_map (removed_one p true)
 
   -- behind alike lists a line stands alike
   pub stands_alike : (xs ys : List Named) → AreAlike xs ys → (l : Line) → line_stands ys l ≡ line_stands xs l
@@ -44,7 +44,7 @@ module _ (p : Address) where
 
   one_removed : (xs ys : List Named) (n m : ℕ) → AreAlike xs ys → (e : Expr) (newline : Piece) (ls : List Line) → Behind (xs ++ named_by xs n e) (n + 1) ls
       → standing_from ys m (remove_line p true xs (record { expr = e; newline = newline }) ++ lines_from (remove_line p true) (xs ++ named_by xs n e) (n + 1) ls)
-      ≡ remove_one p true (line_stands xs (record { expr = e; newline = newline })) ++ taken (standing_from (xs ++ named_by xs n e) (n + 1) ls)
+      ≡ removed_one p true (line_stands xs (record { expr = e; newline = newline })) ++ taken (standing_from (xs ++ named_by xs n e) (n + 1) ls)
   one_removed xs ys n m alike (BlankLine b) newline ls rest = one_stays xs ys n m alike (record { expr = BlankLine b; newline = newline }) ls rest
   one_removed xs ys n m alike (TableLine ws header tail) newline ls rest =
       one_stays xs ys n m alike (record { expr = TableLine ws header tail; newline = newline }) ls rest
@@ -67,5 +67,5 @@ module _ (p : Address) where
   all_removed [] xs n ys m alike = refl
   all_removed (l ∷ ls) xs n ys m alike = one_removed xs ys n m alike l.expr l.newline ls (all_removed ls (xs ++ named_by xs n l.expr) (n + 1))
 
-pub taken_stands : (p : Address) (lines : List Line) → standing (lines_left p true lines) ≡ flat_map (remove_one p true) (standing lines)
+pub taken_stands : (p : Address) (lines : List Line) → standing (lines_left p true lines) ≡ flat_map (removed_one p true) (standing lines)
 taken_stands p lines = all_removed p lines (root ∷ []) 0 (root ∷ []) 0 (alike_self (root ∷ []))

@@ -20,7 +20,8 @@ use Rattle.toml_editor.specs.RemoveLaws.{EmptyNames, LeavesTable, RemoveData, Re
 use Rattle.toml_editor.specs.StandingLaws.{RemoveStands}
 use Rattle.toml_editor.specs.UnitBlocks.{EmptyUnits, IsBlockTaken, RemoveUnits, pair_line_units}
 use Rattle.toml_working.specs.Removing.{empty_table, lines_left, remove_lines}
-use Rattle.toml_working.specs.RemoveStanding.{above, leaves_above, remove_one, remove_standing}
+use Rattle.toml_working.specs.RemoveStanding.{leaves_parent, removed_one, remove_standing}
+use Rattle.toml_layout.specs.Holders.{parent_of}
 use Rattle.toml_working.specs.Standing.{standing}
 use Rattle.toml_working.specs.Written.{HasLine}
 use Rattle.toml_editor.proofs.written.EmptiedLine.{IsEmptying, emptying, right_above}
@@ -37,15 +38,15 @@ use Rattle.toml_editor.proofs.written.WayTaken.{taken_way}
 use Rattle.toml_editor.proofs.written.WayWhole.{HasWay}
 
 -- what holds of both is what holds
-pub either_way : (P : List Line → Type 0) (p : Address) (lines : List Line) → (leaves_above p (standing lines) ≡ true → P (lines_left p true lines))
-    → (leaves_above p (standing lines) ≡ false → P (lines_left p false lines)) → P (remove_lines p lines)
-either_way P p lines stays goes = by (leaves_above p (standing lines)) refl
+pub either_way : (P : List Line → Type 0) (p : Address) (lines : List Line) → (leaves_parent p (standing lines) ≡ true → P (lines_left p true lines))
+    → (leaves_parent p (standing lines) ≡ false → P (lines_left p false lines)) → P (remove_lines p lines)
+either_way P p lines stays goes = by (leaves_parent p (standing lines)) refl
   where
-    by : (b : Bool) → leaves_above p (standing lines) ≡ b → P (remove_lines p lines)
+    by : (b : Bool) → leaves_parent p (standing lines) ≡ b → P (remove_lines p lines)
     by true is = subst (λ t. P (lines_left p t lines)) (sym is) (stays is)
     by false is = subst (λ t. P (lines_left p t lines)) (sym is) (goes is)
 
-lines_are : (p : Address) (b : Bool) (lines : List Line) → leaves_above p (standing lines) ≡ b → remove_lines p lines ≡ lines_left p b lines
+lines_are : (p : Address) (b : Bool) (lines : List Line) → leaves_parent p (standing lines) ≡ b → remove_lines p lines ≡ lines_left p b lines
 lines_are p b lines is = ap (λ t. lines_left p t lines) is
 
 pub remove_names : RemoveNames
@@ -80,7 +81,7 @@ remove_data profile p lines old after there keeps is is' =
     (λ goes. empty_data p lines (emptying p lines there goes keeps) goes keeps profile old after is) is'
 
 pub remove_keeps_lines : RemoveKeepsLines
-remove_keeps_lines p lines there keeps = lines_part p (leaves_above p (standing lines)) lines there keeps
+remove_keeps_lines p lines there keeps = lines_part p (leaves_parent p (standing lines)) lines there keeps
 
 -- nothing that is left is named at the value's address or below it
 pub left_clear : (p : Address) (lines : List Line) → HasLine lines p → KeepsRules (named lines) → EachIs (λ m. IsClear p m.address) (named (remove_lines p lines))
@@ -91,8 +92,8 @@ left_clear p lines there keeps =
 pub remove_stands : RemoveStands
 remove_stands p lines there keeps =
     either_way (λ ls. standing ls ≡ remove_standing p (standing lines)) p lines
-    (λ is. taken_stands p lines ∙ ap (λ b. flat_map (remove_one p b) (standing lines)) (sym is))
-    (λ is. empty_stands p lines (emptying p lines there is keeps) keeps ∙ ap (λ b. flat_map (remove_one p b) (standing lines)) (sym is))
+    (λ is. taken_stands p lines ∙ ap (λ b. flat_map (removed_one p b) (standing lines)) (sym is))
+    (λ is. empty_stands p lines (emptying p lines there is keeps) keeps ∙ ap (λ b. flat_map (removed_one p b) (standing lines)) (sym is))
 
 pub remove_units : RemoveUnits
 remove_units p lines is there keeps =
@@ -124,14 +125,14 @@ module _ (p : Address) (lines : List Line) (forms : AreLines lines) (there : Has
       → HasWay (remove q ∷ []) ([] ∷ []) lines (lines_left q true lines)) (sym at)
       (λ here clear. taken_way table name lines forms here keeps clear) there far
 
-  emptied : leaves_above p (standing lines) ≡ false → AllFar (lines_left p false lines) → Way (lines_left p false lines)
+  emptied : leaves_parent p (standing lines) ≡ false → AllFar (lines_left p false lines) → Way (lines_left p false lines)
   emptied is far =
       let e = emptying p lines there is keeps in
       let q = below (section (named e.front)) (e.cut.first ∷ e.cut.rest) in
       let h = units_emptied p lines e keeps in
       let edited = lines_left p false lines in
       let same : newlines edited ≡ newlines lines = ap newlines e.now ∙ same_ends e.front e.back _ _ refl ∙ sym (ap newlines e.was) in
-      subst (λ x. AreEmptied (above p) x (units lines) (units edited)
+      subst (λ x. AreEmptied (parent_of p) x (units lines) (units edited)
       → EachIs (λ (u : TextUnit). (a : Address) → u.address ≡ Some a → IsClear x a) (units edited)
       → HasWay (remove x ∷ []) ([] ∷ []) lines edited) (sym e.at)
       (λ units_so clear. emptied_way q e.cut.last lines edited same

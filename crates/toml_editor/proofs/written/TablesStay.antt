@@ -21,7 +21,8 @@ use Rattle.toml_names.specs.reader.Names.{own_address}
 use Rattle.toml_names.proofs.Proved.{above_is_above, lines_are_closed, own_address_has_fact, same_step-self}
 use Rattle.toml_units.specs.Units.{line_base}
 use Rattle.toml_layout.specs.Beginnings.{begins}
-use Rattle.toml_working.specs.RemoveStanding.{above, is_pair, is_undotted_at, is_undotted_pair, is_value_at, left_standing, makes, makes_beside, remove_one}
+use Rattle.toml_working.specs.RemoveStanding.{is_pair, is_undotted_at, is_undotted_pair, is_value_at, left_standing, makes, makes_beside, removed_one}
+use Rattle.toml_layout.specs.Holders.{parent_of}
 use Rattle.toml_editor.specs.RemoveLaws.{LeavesTable}
 use Rattle.toml_working.specs.Seeing.{heads, heads_below, is_dotted}
 use Rattle.toml_working.specs.Sections.{stands_in}
@@ -64,17 +65,17 @@ module _ (p q : Address) where
   gone_makes_none s is = ap (λ b. makes q s.base s.address && not b) (value_below p s.base s.address is) ∙ and_false (makes q s.base s.address)
 
   pub makers_stay : (ss : List Standing) → list_any (makes_beside q p) ss ≡ true
-      → list_any (makes_beside q p) (flat_map (remove_one p true) ss) ≡ true
+      → list_any (makes_beside q p) (flat_map (removed_one p true) ss) ≡ true
   makers_stay [] there = there
   makers_stay (s ∷ ss) there = by (is_pair p s) refl (makers_stay ss)
     where
       later : Bool
-      later = list_any (makes_beside q p) (flat_map (remove_one p true) ss)
+      later = list_any (makes_beside q p) (flat_map (removed_one p true) ss)
 
       by : (b : Bool) → is_pair p s ≡ b → (list_any (makes_beside q p) ss ≡ true → later ≡ true)
-          → list_any (makes_beside q p) (cond b (left_standing s) (s ∷ []) ++ flat_map (remove_one p true) ss) ≡ true
+          → list_any (makes_beside q p) (cond b (left_standing s) (s ∷ []) ++ flat_map (removed_one p true) ss) ≡ true
       by true is more =
-          list_any-append (makes_beside q p) (left_standing s) (flat_map (remove_one p true) ss)
+          list_any-append (makes_beside q p) (left_standing s) (flat_map (removed_one p true) ss)
           ∙ ap (λ b. list_any (makes_beside q p) (left_standing s) || b)
           (more (ap (λ b. b || list_any (makes_beside q p) ss) (sym (gone_makes_none s is)) ∙ there))
           ∙ or_true (list_any (makes_beside q p) (left_standing s))
@@ -122,8 +123,8 @@ module _ (p q : Address) where
 
 -- ---- the table right above a value
 
-pub above_is : (q : Address) (last : Step) → above (q ++ last ∷ []) ≡ q
-above_is q last =
+pub parent_is : (q : Address) (last : Step) → parent_of (q ++ last ∷ []) ≡ q
+parent_is q last =
     let long : length (q ++ last ∷ []) ≡ length q + 1 = length-append q (last ∷ []) in
     let less : length (q ++ last ∷ []) - 1 ≡ length q = omega (arith, long) in
     ap (λ n. take n (q ++ last ∷ [])) less ∙ take-append-le (length q) q (last ∷ []) (omega arith) ∙ take_all (length q) q (omega arith)
@@ -196,8 +197,8 @@ parent_made : (q : Address) (last : Step) (lines : List Line) → LeavesTable li
     → (q ≡ []) ⊎ (list_any (makes_beside q (q ++ last ∷ [])) (standing lines) ≡ true)
 parent_made q last lines there =
     let p = q ++ last ∷ [] in
-    elim (either (list_any (is_undotted_pair p) (standing lines)) (list_any (makes_beside (above p) p) (standing lines)) there.1) [
-      | inr made ↦ inr (subst (λ x. list_any (makes_beside x p) (standing lines) ≡ true) (above_is q last) made)
+    elim (either (list_any (is_undotted_pair p) (standing lines)) (list_any (makes_beside (parent_of p) p) (standing lines)) there.1) [
+      | inr made ↦ inr (subst (λ x. list_any (makes_beside x p) (standing lines) ≡ true) (parent_is q last) made)
       | inl undotted ↦ headed undotted
     ]
   where

@@ -18,7 +18,8 @@ use Rattle.toml_tree.specs.Bare.{bare_lines, fresh, bare, bare_blank, bare_comme
 use Rattle.toml_tree.proofs.Proved.{bare_items_text, bare_pairs_text}
 use Rattle.toml_editor.specs.Bares.{SetBares, InsertBares, RenameBares, RemoveBares}
 use Rattle.toml_working.specs.Removing.{emptied_expr, empty_line, empty_table, left_of_line, lines_left, no_blank, remove_line}
-use Rattle.toml_working.specs.RemoveStanding.{above, leaves_above}
+use Rattle.toml_working.specs.RemoveStanding.{leaves_parent}
+use Rattle.toml_layout.specs.Holders.{parent_of}
 use Rattle.toml_working.specs.Standing.{standing}
 use Rattle.toml_editor.proofs.written.StandingBare.{lines_bare}
 use Rattle.toml_working.specs.Renaming.{rename_part, rename_rest, rename_key, rename_assign, rename_value, rename_items, rename_pairs, rename_header, rename_expr, rename_line}
@@ -246,7 +247,7 @@ rename_bares p to lines = from_bared (rename_line p to) (rename_line p to) (rena
 -- ---- remove
 
 left_bared : (p : Address) (b : Bool) (n : ℕ) (l : Line) → map bare_line (left_of_line p b n l) ≡ left_of_line p b n (bare_line l)
-left_bared p false n l = ap (λ (e : Expr). record { expr = e; newline = bare l.newline } ∷ []) (emptied_bared (length (above p) - n) l.expr)
+left_bared p false n l = ap (λ (e : Expr). record { expr = e; newline = bare l.newline } ∷ []) (emptied_bared (length (parent_of p) - n) l.expr)
   where
     emptied_bared : (parts : ℕ) (e : Expr) → bare_expr (emptied_expr parts e) ≡ emptied_expr parts (bare_expr e)
     emptied_bared parts (BlankLine b) = refl
@@ -298,5 +299,5 @@ left_lines_bared p b lines = from_bared (remove_line p b) (remove_line p b) (rem
 
 pub remove_bares : RemoveBares
 remove_bares p lines =
-    left_lines_bared p (leaves_above p (standing lines)) lines
-    ∙ ap (λ ss. lines_left p (leaves_above p ss) (bare_lines lines)) (sym (lines_bare lines (root ∷ []) 0))
+    left_lines_bared p (leaves_parent p (standing lines)) lines
+    ∙ ap (λ ss. lines_left p (leaves_parent p ss) (bare_lines lines)) (sym (lines_bare lines (root ∷ []) 0))
