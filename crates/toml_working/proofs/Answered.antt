@@ -28,3 +28,8 @@ pub if_ok_three : {X E : Type 0} (P Q R S : X → Type 0) (r : Result X E) → (
     → IfOk r R → IfOk r S
 if_ok_three P Q R S (Ok x) f p q h = f x p q h
 if_ok_three P Q R S (Err e) f p q h = tt
+
+-- of one that holds wherever there is one, and one that is said of it
+pub if_ok_both_of : {X E : Type 0} (P : Type 0) (Q R : X → Type 0) (r : Result X E) → ((x : X) → P → Q x → R x) → OnOk r P → IfOk r Q → IfOk r R
+if_ok_both_of P Q R (Ok x) f p q = f x p q
+if_ok_both_of P Q R (Err e) f p q = tt

@@ -13,6 +13,10 @@ mod Commented
 mod Put
 mod PutRoot
 mod Sectioned
+mod HeaderSteps
+mod NoBytes
+mod NextFound
+mod HeaderPut
 mod Alone
 mod Turned
 mod Changed

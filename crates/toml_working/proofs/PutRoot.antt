@@ -56,7 +56,7 @@ stands_new read q name o l address base (n, is, outlined) =
     ap₂ (λ x y. record { address = x; base = y; outline = body_outline read l.body }) address base
     ∙ ap (λ x. record { address = Some (q ++ Name name ∷ []); base = Some (length q); outline = x }) (ap (body_outline read) is ∙ outlined)
 
-kept_new : (text : List ℕ) (read : Read) (o : LineOutline) (body : Body) → HasOutline o body → BodyKept text read body
+pub kept_new : (text : List ℕ) (read : Read) (o : LineOutline) (body : Body) → HasOutline o body → BodyKept text read body
 kept_new text read o body (n, is, outlined) = subst (BodyKept text read) (sym is) tt
 
 pub puts_behind : (own : Address) (base : ℕ) (steps : List (String Global)) (v : ValueOutline) (manner : Manner) (texts : Texts) (read : Read)

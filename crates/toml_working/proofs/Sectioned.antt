@@ -41,7 +41,7 @@ end_of_guess q units slots start from at ends there lines =
 
 -- ---- the line is put in
 
-header_here : (q : Address) (read : Read) (slots : List Slot) (at : Position) → IsSoughtAt sought.Header q read slots at
+pub header_here : (q : Address) (read : Read) (slots : List Slot) (at : Position) → IsSoughtAt sought.Header q read slots at
     → (h : Standing) × (line_at read slots at ≡ Some h) × (is_sought_line sought.Header q h ≡ true)
 header_here q read slots at found = by (line_at read slots at) refl found
   where

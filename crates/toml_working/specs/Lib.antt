@@ -23,6 +23,9 @@ pub mod Seeing
 pub mod Placing
 pub mod Putting
 pub mod Sections
+pub mod Headers
+pub mod NextHeaders
+pub mod PuttingHeaders
 pub mod Changing
 pub mod HeldLines
 pub mod RemoveStanding

@@ -1,4 +1,6 @@
 //! Tables in which no table stands: all their lines stand in one section.
+ghost use Rattle.toml_working.specs.NextHeaders.{FindsFirst};
+
 use crate::lines::Slot;
 use crate::working::{Before, TablePlace, Tree};
 use toml_names::{Address, Datum, Place};
@@ -45,7 +47,9 @@ impl<'x> Tree<'x> {
         named: Option<Place>,
         at: &Address,
         begins: bool,
-    ) -> usize {
+    ) -> usize
+        ensures { FindsFirst at.now before.entry.units.now self.now.slots.items result }
+    {
         match self.near_table(before, named, at) {
             Some(TablePlace::Header(header)) if begins => header.slot,
             _ => 0,

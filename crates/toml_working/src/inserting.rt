@@ -1,5 +1,5 @@
 //! `insert`: an element of an array, a pair of an inline table, or a line with a key and a value.
-ghost use Rattle.std.specs.Prelude.{◌≡◌, ◌++◌, ◌∷◌, IfOk, OnOk, drop, false, length, take, true};
+ghost use Rattle.std.specs.Prelude.{◌≡◌, ◌++◌, ◌<◌, ◌∷◌, IfOk, OnOk, drop, false, length, take, true};
 ghost use Rattle.toml_layout.specs.KnownLines.{lines_known};
 ghost use Rattle.toml_layout.specs.OpenOutlines.{leaf_text, value};
 ghost use Rattle.toml_working.specs.Putting.{EndsOne, EndsSlot, EndsSlots, IsElsewhere, IsPairLine};
@@ -275,6 +275,7 @@ impl<'x> Tree<'x> {
         ensures put { let old = self.old.slots.items in
             let now = self.new.slots.items in
             OnOk result (PutsSlots (read_of before.entry) at line.entry old now) }
+        ensures done { IfOk result (λ done. at.slot < length self.old.slots.items → done ≡ true) }
     {
         self.guesses.put(self.texts.alloc, at.slot, &line)?;
         put_at(&mut self.slots, self.texts.alloc, before, at, line)
@@ -297,7 +298,8 @@ fn put_at<'t>(
     at: Position,
     line: Line<'t>,
 ) -> Result<bool, AllocError>
-    ensures { OnOk result (PutsSlots (read_of before.entry) at line.entry slots.old.items slots.new.items) }
+    ensures put { OnOk result (PutsSlots (read_of before.entry) at line.entry slots.old.items slots.new.items) }
+    ensures done { IfOk result (λ done. at.slot < length slots.old.items → done ≡ true) }
 {
     match slots.get_mut(at.slot) {
         Some(slot) => slot.put(alloc, before, at.index, line),
@@ -360,7 +362,8 @@ impl<'t> Slot<'t> {
         index: usize,
         line: Line<'t>,
     ) -> Result<bool, AllocError>
-        ensures { OnOk result (PutsSlot (read_of before.entry) index line.entry self.old self.new) }
+        ensures put { OnOk result (PutsSlot (read_of before.entry) index line.entry self.old self.new) }
+        ensures done { IfOk result (λ done. done ≡ true) }
     {
         self.open(alloc, before.units)?;
         match self {

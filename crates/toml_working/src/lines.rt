@@ -9,6 +9,7 @@ ghost use Rattle.toml_working.specs.OpeningLines.{HasOutline, OpensBody, OpensTo
 ghost use Rattle.toml_layout.specs.Outlines.{Nothing};
 ghost use Rattle.toml_working.specs.Seeing.{FindsIn, SeesLine, kept_found, line_found, read_by, seen};
 ghost use Rattle.toml_working.specs.Putting.{LineIsLast, SlotIsLast};
+ghost use Rattle.toml_working.specs.PuttingHeaders.{LineHasNoBytes, SlotHasNoBytes};
 ghost use Rattle.toml_working.specs.Stands.{OpensSlot, kept_line};
 ghost use Rattle.toml_working.specs.Standing.{Read, is_below, lies_below, slot_standing};
 
@@ -134,7 +135,9 @@ impl<'t> Line<'t> {
     }
 
     /// Whether it has no bytes, and ends in no newline.
-    pub(crate) fn has_no_bytes(&self) -> bool {
+    pub(crate) fn has_no_bytes(&self) -> bool
+        ensures { LineHasNoBytes self.now result }
+    {
         match &self.body {
             Body::Kept(kept) => kept.span.start == kept.span.end,
             Body::Open(line) => line.has_no_bytes(),
@@ -289,7 +292,9 @@ impl<'t> Slot<'t> {
     }
 
     /// Whether the line with the index has no bytes, and ends in no newline.
-    pub(crate) fn has_no_bytes(&self, index: usize) -> bool {
+    pub(crate) fn has_no_bytes(&self, index: usize) -> bool
+        ensures { SlotHasNoBytes self.now index result }
+    {
         match self {
             Slot::Kept(kept) => kept.span.start == kept.span.end,
             Slot::Lines(lines) => match lines.get(index) {

@@ -1,10 +1,18 @@
 //! `section` and `element`: a header line of a new table, or of a new element of an array of tables.
-ghost use Rattle.std.specs.Prelude.{IfOk, IsTrue, List, OnOk};
+ghost use Rattle.std.specs.Prelude.{◌≡◌, IfOk, IsTrue, List, OnOk, false, map, string_bytes, true};
 ghost use Rattle.toml_working.specs.InValues.{IsElementInValue, IsInValue, IsRightInValue};
 ghost use Rattle.toml_tree.specs.Tree.{Line as Lined};
 ghost use Rattle.toml_names.specs.reader.LineNames.{Stand, StandFor};
+ghost use Rattle.toml_text.specs.Source.{text_of};
+ghost use Rattle.toml_layout.specs.NewKeys.{HasParts};
+ghost use Rattle.toml_layout.specs.OpenOutlines.{leaf_text};
+ghost use Rattle.toml_working.specs.Headers.{innermost};
 ghost use Rattle.toml_working.specs.InValues.{places_of};
+ghost use Rattle.toml_working.specs.NextHeaders.{FindsNext, FindsPlace, WalksPast, WalksSlot};
+ghost use Rattle.toml_working.specs.PuttingHeaders.{AddsPlainly, FindsEnd, HasNoBytesAt, IsHeaderOf, PutsHeader, PutsLast, TreePutsPlainly, name_texts, up_to};
+ghost use Rattle.toml_working.specs.Starting.{read_of};
 ghost use Rattle.toml_working.specs.Stands.{KeepsRest};
+ghost use Rattle.toml_working.specs.declared.sections.Walk.TheVariants as walks;
 
 use crate::lines::{Line, Seen, Slot};
 use crate::removing::parent_of;
@@ -57,20 +65,44 @@ impl<'x> Tree<'x> {
         before: Before<'_, 'x>,
         above: &Above,
         new: NewHeader<'_, 'x>,
-    ) -> Result<bool, AllocError> {
+    ) -> Result<bool, AllocError>
+        ensures plain { let it = new.entry in
+            IfOk result (TreePutsPlainly above.now.at above.now.element it.at.now it.brackets it.spelled.now (read_of before.entry) self.old self.new) }
+    {
         if self.value_line(before, above.named, &above.at).is_some() {
             return Ok(false);
         }
-        if let Layout::Follow = self.texts.layout {
-            return self.add_beside(before, above, new);
+        match self.texts.layout {
+            Layout::Plain => self.add_plainly(before, above, new),
+            Layout::Follow => self.add_beside(before, above, new),
         }
-        let next = match &above.element {
-            Some(element) => self.behind_element(before, above.near, element),
-            None => None,
-        };
-        match next {
+    }
+
+    /// Puts a header line in by layout `Plain`.
+    fn add_plainly(
+        &mut self,
+        before: Before<'_, 'x>,
+        above: &Above,
+        new: NewHeader<'_, 'x>,
+    ) -> Result<bool, AllocError>
+        ensures { let it = new.entry in
+            let style = leaf_text self.old.style in
+            let text = text_of self.old.texts.source in
+            IfOk result (AddsPlainly above.now.element it.at.now it.brackets it.spelled.now style text (read_of before.entry) self.old.slots.items self.new.slots.items) }
+    {
+        match self.next_header(before, above) {
             Some(next) => self.put_header(before, next, new),
             None => self.add_last(before, new),
+        }
+    }
+
+    /// The header line before which another goes by layout `Plain`, if that does not go at the end of the text.
+    fn next_header(&self, before: Before<'_, 'x>, above: &Above) -> Option<Position>
+        ensures { FindsPlace above.now.element before.entry.units.now self.now.slots.items result }
+    {
+        match &above.element {
+            Some(element) => self.behind_element(before, above.near, element),
+            None => None,
         }
     }
 
@@ -81,7 +113,10 @@ impl<'x> Tree<'x> {
         at: Position,
         new: NewHeader<'_, 'x>,
     ) -> Result<bool, AllocError>
-        ensures { OnOk result (KeepsRest self.old self.new) }
+        ensures rest { OnOk result (KeepsRest self.old self.new) }
+        ensures put { let it = new.entry in
+            let style = leaf_text self.old.style in
+            IfOk result (PutsHeader it.at.now it.brackets it.spelled.now style (read_of before.entry) at self.old.slots.items self.new.slots.items) }
     {
         let line = new.line(self.alloc(), self.style)?;
         self.put(before, at, line)
@@ -92,7 +127,12 @@ impl<'x> Tree<'x> {
         &mut self,
         before: Before<'_, 'x>,
         new: NewHeader<'_, 'x>,
-    ) -> Result<bool, AllocError> {
+    ) -> Result<bool, AllocError>
+        ensures { let it = new.entry in
+            let style = leaf_text self.old.style in
+            let text = text_of self.old.texts.source in
+            IfOk result (PutsLast it.at.now it.brackets it.spelled.now style text (read_of before.entry) self.old.slots.items self.new.slots.items) }
+    {
         let Some(last) = self.last_line() else {
             return Ok(false);
         };
@@ -105,7 +145,9 @@ impl<'x> Tree<'x> {
     }
 
     /// The last line.
-    pub(crate) fn last_line(&self) -> Option<Position> {
+    pub(crate) fn last_line(&self) -> Option<Position>
+        ensures { FindsEnd self.now.slots.items result }
+    {
         for slot in (0..self.slots.len()).rev() {
             if let Some(index) = self.slots[slot].count().checked_sub(1) {
                 return Some(Position { slot, index });
@@ -115,7 +157,9 @@ impl<'x> Tree<'x> {
     }
 
     /// Whether the line at a place has no bytes, and ends in no newline.
-    pub(crate) fn has_no_bytes(&self, at: Position) -> bool {
+    pub(crate) fn has_no_bytes(&self, at: Position) -> bool
+        ensures { HasNoBytesAt self.now.slots.items at result }
+    {
         match self.slots.get(at.slot) {
             Some(slot) => slot.has_no_bytes(at.index),
             None => false,
@@ -129,7 +173,9 @@ impl<'x> Tree<'x> {
         before: Before<'_, 'x>,
         named: Option<Place>,
         element: &Address,
-    ) -> Option<Position> {
+    ) -> Option<Position>
+        ensures { FindsNext element.now before.entry.units.now self.now.slots.items result }
+    {
         let mut walk = Walk::Before;
         for slot in self.first_slot(before, named, element, true)..self.slots.len() {
             walk = self.slots[slot].walked(before.units, slot, element, walk);
@@ -146,7 +192,9 @@ impl<'x> Tree<'x> {
 
 impl Slot<'_> {
     /// Goes on with a walk through its lines.
-    fn walked<'a>(&'a self, units: &'a [Unit], slot: usize, element: &Address, walk: Walk) -> Walk {
+    fn walked<'a>(&'a self, units: &'a [Unit], slot: usize, element: &Address, walk: Walk) -> Walk
+        ensures { WalksSlot element.now units.now self.now slot walk result }
+    {
         let mut walk = walk;
         for index in 0..self.count() {
             let Some(line) = self.seen(units, index) else {
@@ -162,15 +210,29 @@ impl Slot<'_> {
 
 impl Walk {
     /// The walk past a header line at a place.
-    fn past(self, line: Seen<'_>, element: &Address, at: Position) -> Walk {
-        let next = match self {
-            Walk::Ended(_) => return self,
-            _ if line.is_below(element) => return Walk::Within,
-            Walk::Before => return Walk::Before,
-            Walk::Within => at,
-            Walk::Behind(next) => next,
-        };
-        if line.begins_later(element) {
+    fn past(self, line: Seen<'_>, element: &Address, at: Position) -> Walk
+        ensures { WalksPast element.now line.entry at self result }
+    {
+        if let Walk::Ended(_) = self {
+            return self;
+        }
+        if line.is_below(element) {
+            return Walk::Within;
+        }
+        match self {
+            Walk::Before => Walk::Before,
+            Walk::Within => Walk::behind(at, line.begins_later(element)),
+            Walk::Behind(next) => Walk::behind(next, line.begins_later(element)),
+            Walk::Ended(_) => self,
+        }
+    }
+
+    /// The walk behind the last header line of the element: this is the first one there, and `ends` tells whether no line of it follows.
+    fn behind(next: Position, ends: bool) -> Walk
+        ensures ended { ends ≡ true → result ≡ walks.Ended next }
+        ensures behind { ends ≡ false → result ≡ walks.Behind next }
+    {
+        if ends {
             Walk::Ended(next)
         } else {
             Walk::Behind(next)
@@ -180,7 +242,10 @@ impl Walk {
 
 impl<'x> NewHeader<'_, 'x> {
     /// The line, with this newline: the names of the address between brackets, indices left out.
-    pub(crate) fn line(self, alloc: Global, newline: Leaf<'x>) -> Result<Line<'x>, AllocError> {
+    pub(crate) fn line(self, alloc: Global, newline: Leaf<'x>) -> Result<Line<'x>, AllocError>
+        ensures { let it = self.entry in
+            IfOk result (IsHeaderOf it.at.now it.brackets it.spelled.now (leaf_text newline.entry)) }
+    {
         let header = Header {
             brackets: self.brackets,
             before: Leaf::EMPTY,
@@ -193,24 +258,30 @@ impl<'x> NewHeader<'_, 'x> {
 }
 
 /// The key of the names of an address, by the spellings of its steps; indices are left out.
-fn names_key<'t>(
-    alloc: Global,
-    at: &Address,
-    spelled: &'t [String],
-) -> Result<Key<'t>, AllocError> {
+fn names_key<'t>(alloc: Global, at: &Address, spelled: &'t [String]) -> Result<Key<'t>, AllocError>
+    ensures { IfOk result (HasParts (name_texts at.now (map string_bytes spelled.now))) }
+{
     let mut key = Key::none(alloc);
     let mut first = true;
-    for (step, text) in at.steps().iter().zip(spelled) {
-        if let Step::Name(_) = step {
-            key.push(first, text.as_str())?;
-            first = false;
+    for (place, step) in at.steps().iter().enumerate() {
+        let Some(text) = spelled.get(place) else {
+            return Ok(key);
+        };
+        match step {
+            Step::Name(_) => {
+                key.push(first, text.as_str())?;
+                first = false;
+            }
+            Step::Index(_) => {}
         }
     }
     Ok(key)
 }
 
 /// The element at the address, or the innermost one above it.
-pub fn innermost_element(alloc: Global, at: &Address) -> Result<Option<Address>, AllocError> {
+pub fn innermost_element(alloc: Global, at: &Address) -> Result<Option<Address>, AllocError>
+    ensures { IfOk result (λ found. found ≡ innermost at.now) }
+{
     let count = steps_to_index(at.steps());
     if count == 0 {
         return Ok(None);
@@ -221,11 +292,14 @@ pub fn innermost_element(alloc: Global, at: &Address) -> Result<Option<Address>,
 }
 
 /// How many steps there are up to the last index, it among them; none where there is no index.
-fn steps_to_index(steps: &[Step]) -> usize {
+fn steps_to_index(steps: &[Step]) -> usize
+    ensures { innermost steps.now ≡ up_to result steps.now }
+{
     let mut count = 0;
     for (place, step) in steps.iter().enumerate() {
-        if let Step::Index(_) = step {
-            count = place + 1;
+        match step {
+            Step::Index(_) => count = place + 1,
+            Step::Name(_) => {}
         }
     }
     count

@@ -1,6 +1,7 @@
 //! A line by what finds it: what it is to an address.
 ghost use Rattle.std.specs.Prelude.{◌≡◌};
 ghost use Rattle.toml_names.specs.model.Addresses.{lent};
+ghost use Rattle.toml_working.specs.Headers.{begins_later};
 ghost use Rattle.toml_working.specs.InsertStanding.{is_bare};
 ghost use Rattle.toml_working.specs.LookingUp.{last_pair_from};
 ghost use Rattle.toml_working.specs.Placing.{is_header, pair_at};
@@ -10,7 +11,7 @@ ghost use Rattle.toml_working.specs.Seeing.{heads, heads_below, is_dotted, is_so
 ghost use Rattle.toml_working.specs.Standing.{leads_to, lies_below};
 
 use crate::lines::{Seen, Sought};
-use crate::steps::{is_at_or_above, is_same_way, names_in};
+use crate::steps::{element_of, is_at_or_above, is_same_way, names_in};
 use crate::working::Position;
 use toml_names::{Address, Step};
 
@@ -135,16 +136,19 @@ impl Seen<'_> {
 
     /// Whether it is the header of a later element of the array of tables whose element stands at the address. New elements come
     /// last, and so do their indices.
-    pub(crate) fn begins_later(self, at: &Address) -> bool {
+    pub(crate) fn begins_later(self, at: &Address) -> bool
+        ensures { result ≡ begins_later at.now self.entry.base (lent self.entry.address) }
+    {
         let Some(own) = self.address else {
             return false;
         };
-        match (own.steps().split_last(), at.steps().split_last()) {
-            (Some((Step::Index(index), array)), Some((Step::Index(element), other))) => {
-                self.is_header() && index > element && is_same_way(array, other)
-            }
-            _ => false,
-        }
+        let Some((array, index)) = element_of(own.steps()) else {
+            return false;
+        };
+        let Some((other, element)) = element_of(at.steps()) else {
+            return false;
+        };
+        self.is_header() && index > element && is_same_way(array, other)
     }
 
     /// How many parts of its key lead to the address.

@@ -1,5 +1,7 @@
 //! The steps of addresses.
-ghost use Rattle.std.specs.Prelude.{◌≡◌, ◌≤◌, ◌∷◌, [], drop, set};
+ghost use Rattle.std.specs.Prelude.{◌≡◌, ◌≤◌, ◌∷◌, [], drop, option_map, set};
+ghost use Rattle.toml_names.specs.model.Addresses.{same_address};
+ghost use Rattle.toml_working.specs.Headers.{element_of};
 ghost use Rattle.toml_working.specs.RenameStanding.{names_in};
 ghost use Rattle.toml_layout.specs.Beginnings.{begins};
 
@@ -47,13 +49,26 @@ pub(crate) fn begins(above: &[Step], steps: &[Step]) -> bool
 }
 
 /// Whether the steps are the same.
-pub(crate) fn is_same_way(one: &[Step], other: &[Step]) -> bool {
+pub(crate) fn is_same_way(one: &[Step], other: &[Step]) -> bool
+    ensures { result ≡ same_address one.now other.now }
+{
     one.len() == other.len() && begins(one, other)
 }
 
 /// Whether the address is that of an element.
 pub(crate) fn is_element(at: &Address) -> bool {
     matches!(at.steps().last(), Some(Step::Index(_)))
+}
+
+/// The array and the index of an element, if the steps lead to one.
+pub(crate) fn element_of(steps: &[Step]) -> Option<(&[Step], u64)>
+    ensures { option_map (λ r. (r.0.now, r.1)) result ≡ element_of steps.now }
+{
+    let (last, array) = steps.split_last()?;
+    match last {
+        Step::Index(index) => Some((array, *index)),
+        Step::Name(_) => None,
+    }
 }
 
 /// How many of the steps are names.
