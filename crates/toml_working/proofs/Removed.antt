@@ -17,9 +17,9 @@ use Rattle.toml_working.specs.declared.lines.Slot.TheVariants as slots
 use Rattle.toml_working.specs.Becoming.{BodyBecomes}
 use Rattle.toml_working.specs.OpeningLines.{HasOutline, alone}
 use Rattle.toml_working.specs.Putting.{LineIsLast}
-use Rattle.toml_working.specs.RemoveStanding.{empty_standing, left_of_pair, left_standing, makes, parts_to}
+use Rattle.toml_working.specs.RemoveStanding.{empty_standing, left_of_pair, makes, parts_to}
 use Rattle.toml_working.specs.RemovingIn.{LeavesBehind, LeavesLines, LeavesSlot, LinesKept, lines_of, stays_behind, stays_past, left_of_one, left_of_all}
-use Rattle.toml_working.specs.Standing.{Standing, Read, body_outline, is_below, lies_below, line_standing}
+use Rattle.toml_working.specs.Standing.{Standing, Read, body_outline, lies_below, line_standing}
 use Rattle.toml_working.specs.Stands.{BodyKept, OpensSlot}
 use Rattle.toml_working.proofs.Turned.{opened_kept, opened_standing}
 use Rattle.toml_working.proofs.Each.{each_append, each_back, each_front}

@@ -1,5 +1,5 @@
 -- The working tree stands for lines.
-use Rattle.std.specs.Prelude.{◌≡◌, ◌↔◌, ℕ, Bool, true, false, List, [], ◌∷◌, Some, IsTrue, map, slice_get, slice_range}
+use Rattle.std.specs.Prelude.{◌≡◌, ◌↔◌, ℕ, Bool, List, [], ◌∷◌, Some, IsTrue, map, slice_get, slice_range}
 use Rattle.std.specs.List.{list_any}
 use Rattle.toml_text.specs.Source.{IsHeld, text_of}
 use Rattle.std.specs.declared.vec.Vec.{Vec}

@@ -3,7 +3,7 @@ use Rattle.std.proofs.lemmas.Result.{IfOk-weaker}
 use Rattle.toml_layout.specs.KnownLines.{lines_known}
 use Rattle.toml_working.specs.Seeing.{Found}
 use Rattle.toml_working.specs.Standing.{lies_below}
-use Rattle.toml_working.proofs.Removed.{apart_stays, below_leaves}
+use Rattle.toml_working.proofs.Removed.{below_leaves}
 use Rattle.toml_working.proofs.removing.left_of.Goals as goal
 
 pub returns-then-is_below-clause-left : goal.returns-then-is_below-clause-left
