@@ -17,6 +17,9 @@ mod HeaderSteps
 mod NoBytes
 mod NextFound
 mod HeaderPut
+mod Followed
+mod FollowedEnd
+mod HeaderAdded
 mod Alone
 mod Turned
 mod Changed

@@ -15,7 +15,7 @@ use Rattle.toml_working.specs.declared.lines.Sought.TheVariants as sought
 use Rattle.toml_working.specs.InsertStanding.{end_in}
 use Rattle.toml_working.specs.Placing.{is_header}
 use Rattle.toml_working.specs.Seeing.{is_sought_line}
-use Rattle.toml_working.specs.Standing.{Standing, holds}
+use Rattle.toml_working.specs.Standing.{Standing}
 
 -- ---- the line
 
@@ -96,11 +96,6 @@ abbrev pub put_plainly : Option Address → (List ℕ → Standing) → List ℕ
 put_plainly None new style ss = put_last new style ss
 put_plainly (Some e) new style ss = or_last new style ss (before_next e (new style) ss)
 
--- The header line of what stands at `p` right below `q` is put in, where no line's value stands at `q` or holds what does.
-abbrev pub header_standing : Address → Address → Brackets → List ℕ → List Standing → List Standing
-header_standing q p brackets style ss =
-    if list_any (holds q) ss then ss else put_plainly (innermost q) (new_header p brackets []) style ss
-
 -- ---- what documents have under the table rules
 
 -- the array and the index of an element, if the address is one's
@@ -140,9 +135,3 @@ pub record StandTogether (e : Address) (ss : List Standing) : Type 0 where
 abbrev pub ElementStands : Option Address → List Standing → Type 0
 ElementStands None ss = Unit {0}
 ElementStands (Some e) ss = StandTogether e ss
-
--- there are lines, the root is no line's value, and the lines of the innermost element at the address or above it stand together
-pub record TakeHeader (q : Address) (ss : List Standing) : Type 0 where
-  pub some : ¬ (ss ≡ [])
-  pub root : list_any (holds []) ss ≡ false
-  pub element : ElementStands (innermost q) ss
