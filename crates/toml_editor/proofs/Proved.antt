@@ -5,8 +5,8 @@ pub use Rattle.toml_editor.proofs.written.SetFormed.{set_forms}
 pub use Rattle.toml_editor.proofs.written.InsertNamed.{insert_names}
 pub use Rattle.toml_editor.proofs.written.InsertKept.{insert_rules, insert_short, insert_data}
 pub use Rattle.toml_editor.proofs.written.InsertFormed.{insert_forms}
-pub use Rattle.toml_editor.proofs.written.RemoveNamed.{remove_names, remove_keeps_lines}
-pub use Rattle.toml_editor.proofs.written.RemoveKept.{remove_good, remove_data, remove_forms}
+pub use Rattle.toml_editor.proofs.written.RemovedEither.{empty_names, empty_units, remove_data, remove_good, remove_keeps_lines, remove_names, remove_units}
+pub use Rattle.toml_editor.proofs.written.RemoveKept.{remove_forms}
 pub use Rattle.toml_editor.proofs.written.RenameNamed.{rename_names}
 pub use Rattle.toml_editor.proofs.written.RenameKept.{rename_good, rename_data}
 pub use Rattle.toml_editor.proofs.written.RenameFormed.{rename_forms}
@@ -16,7 +16,6 @@ pub use Rattle.toml_editor.proofs.written.Untouched.{set_keeps_line, rename_keep
 pub use Rattle.toml_editor.proofs.written.Unplaced.{set_bares, insert_bares, remove_bares, rename_bares}
 pub use Rattle.toml_editor.proofs.written.Steps.{good_texts_are_documents, plain_is_written, plain_step, plain_steps, one_written, one_list_written}
 pub use Rattle.toml_editor.proofs.written.UnitsPut.{insert_units}
-pub use Rattle.toml_editor.proofs.written.UnitsTaken.{remove_units}
 pub use Rattle.toml_editor.proofs.written.UnitsRenamed.{rename_units}
 pub use Rattle.toml_editor.proofs.written.UnitsSet.{set_units}
 pub use Rattle.toml_editor.proofs.written.UnitsCarried.{plain_is_carried}

@@ -12,7 +12,12 @@ pub mod Closed
 pub mod Deep
 pub mod DocumentSections
 pub mod Elsewhere
+pub mod EmptiedLine
+pub mod EmptyAlone
+pub mod EmptyKept
 pub mod EmptyLines
+pub mod EmptyNamed
+pub mod EmptyStands
 pub mod Examples
 pub mod ExamplesBelow
 pub mod Exchanged
@@ -47,6 +52,7 @@ pub mod PutStands
 pub mod RemoveKept
 pub mod RemoveNamed
 pub mod RemoveStanding
+pub mod RemovedEither
 pub mod RenameFollow
 pub mod RenameFormed
 pub mod RenameKept
@@ -65,6 +71,7 @@ pub mod StandingHas
 pub mod StandingOrder
 pub mod StandingThere
 pub mod Steps
+pub mod TablesStay
 pub mod Texts
 pub mod Together
 pub mod UnitsAlike
@@ -82,6 +89,7 @@ pub mod Untouched
 pub mod Way
 pub mod WayBlock
 pub mod WayComments
+pub mod WayEmptied
 pub mod WayFits
 pub mod WayHeld
 pub mod WayKeeps

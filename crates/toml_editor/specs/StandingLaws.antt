@@ -25,7 +25,7 @@ use Rattle.toml_working.specs.Seeing.{AreHeaded, is_sought_line}
 use Rattle.toml_working.specs.Standing.{AreOrdered, Standing, standing, set_standing, has}
 use Rattle.toml_layout.specs.Outlines.{ValueOutline}
 use Rattle.toml_layout.specs.TreeOutlines.{value_outline}
-use Rattle.toml_working.specs.Written.{HasUndottedLine, HasSection, HasValue}
+use Rattle.toml_working.specs.Written.{HasLine, HasSection, HasValue}
 
 -- Law: places do not count.
 abbrev pub PlacesDoNotStand : Type 0
@@ -77,11 +77,11 @@ abbrev pub HeaderIsAlone : Type 0
 HeaderIsAlone = (q : Address) (lines : List Line) → KeepsRules (named lines) → list_any (is_sought_line sought.Header q) (standing lines) ≡ true
     → AreHeaded q (standing lines)
 
--- Laws: the value of a key at the root is that of a line whose key is not dotted,
+-- Laws: the value of a key at the root is that of a line,
 abbrev pub RootPairIsLine : Type 0
 RootPairIsLine = (name : List ℕ) (lines : List Line) → Any (λ m. (m.address ≡ Name name ∷ []) × (m.role ≡ Valued)) (named lines)
-    → HasUndottedLine lines (Name name ∷ [])
+    → HasLine lines (Name name ∷ [])
 
 -- and the lines after a `remove` are what the `remove` makes of the lines.
 abbrev pub RemoveStands : Type 0
-RemoveStands = (p : Address) (lines : List Line) → standing (remove_lines p lines) ≡ remove_standing p (standing lines)
+RemoveStands = (p : Address) (lines : List Line) → HasLine lines p → KeepsRules (named lines) → standing (remove_lines p lines) ≡ remove_standing p (standing lines)

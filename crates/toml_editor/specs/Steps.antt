@@ -15,7 +15,7 @@ use Rattle.toml_edits.specs.After.{IsAfter}
 use Rattle.toml_edits.specs.Edits.{Change, set, insert, rename, remove}
 use Rattle.toml_edits.specs.Faults.{IsFault}
 use Rattle.toml_edits.specs.Lists.{Lead}
-use Rattle.toml_working.specs.Written.{HasUndottedLine, HasSection, HasValue, IsWritten, style_of}
+use Rattle.toml_working.specs.Written.{HasLine, HasSection, HasValue, IsWritten, style_of}
 use Rattle.toml_working.specs.Manners.{Manner}
 
 -- a text that a good tree of the profile spells, and its data
@@ -31,12 +31,12 @@ GoodTextsAreDocuments = (profile : Profile) (text : List ℕ) → IsText text
     → ((kinds : Kinds) × IsGoodText profile text kinds) ↔ IsDocumentIn profile text
 
 -- the edit is plain on these lines: a `set` where a value stands, a `rename`, an `insert` of a name at the root or in a table that has a
--- header, a `remove` of a value that a line has by a key that is not dotted
+-- header, a `remove` of a value of a line
 abbrev pub IsPlain : List Line → Change → Type 0
 IsPlain lines (set p text) = HasValue lines p
 IsPlain lines (insert p text) = (q : Address) × (name : List ℕ) × (p ≡ child q name) × HasSection lines q
 IsPlain lines (rename p to) = Unit {0}
-IsPlain lines (remove p) = HasUndottedLine lines p
+IsPlain lines (remove p) = HasLine lines p
 IsPlain lines _ = ⊥
 
 -- Law: a plain edit that makes something of the data writes a text.

@@ -1,6 +1,6 @@
 -- Laws of the units after the `insert` and the `remove` of a line: one block more, or one less, between two lines. The newline of a line is
 -- in no unit. All other units are as they were, with their pieces: a piece of edited lines has the place that it had before.
-use Rattle.std.specs.Prelude.{◌≡◌, ◌+◌, ℕ, List, [], ◌∷◌, ◌++◌, Option, Some, None, length}
+use Rattle.std.specs.Prelude.{◌≡◌, ◌<◌, ◌+◌, ℕ, List, [], ◌∷◌, ◌++◌, Option, Some, None, length}
 use Rattle.toml_scalar.specs.Spelling.{spelled}
 use Rattle.toml_tree.specs.Bare.{fresh}
 use Rattle.toml_tree.specs.Spells.{joined, value_parts, AreLines}
@@ -13,9 +13,11 @@ use Rattle.toml_units.specs.Units.{TextUnit, inside, comment_units, units}
 use Rattle.toml_layout.specs.declared.layout.Layout.TheVariants as layouts
 use Rattle.toml_working.specs.Inserting.{insert_in}
 use Rattle.toml_working.specs.Manners.{Manner}
-use Rattle.toml_working.specs.Removing.{remove_lines}
+use Rattle.toml_working.specs.Removing.{empty_table, remove_lines}
 use Rattle.toml_layout.specs.Spacings.{Spacing, plain_spacing}
-use Rattle.toml_working.specs.Written.{HasUndottedLine, HasSection}
+use Rattle.toml_editor.specs.RemoveLaws.{LeavesTable, TakesTable}
+use Rattle.toml_layout.specs.Holders.{parent_of}
+use Rattle.toml_working.specs.Written.{HasSection}
 
 -- a keyval line: itself, what lies in its value, and its comment; to the table in which it stands lead so many steps
 abbrev pub pair_line_units : Piece → Address → ℕ → Value → Option Piece → List TextUnit
@@ -63,8 +65,15 @@ InsertUnits = (q : Address) (name : List ℕ) (v : Value) (manner : Manner) (lin
     → (s : Spacing) × (manner.layout ≡ layouts.Plain → s ≡ plain_spacing)
     × IsBlockPut (units lines) (pair_line_units (fresh (pair_text s name v)) (child q name) (length q) v None) (units (insert_in q name v manner lines))
 
--- Law: the units of the new lines are those of the old ones without those of the line.
+-- Laws: the units of the new lines are those of the old ones without those of the line, where the table right above the value stays;
 abbrev pub RemoveUnits : Type 0
-RemoveUnits = (p : Address) (lines : List Line) → AreLines lines → HasUndottedLine lines p → KeepsRules (named lines)
-    → (piece : Piece) × (base : ℕ) × (v : Value) × (comment : Option Piece) × (length p ≡ base + 1)
+RemoveUnits = (p : Address) (lines : List Line) → AreLines lines → LeavesTable lines p → KeepsRules (named lines)
+    → (piece : Piece) × (base : ℕ) × (v : Value) × (comment : Option Piece) × (base < length p)
     × IsBlockTaken (units lines) (pair_line_units piece p base v comment) (units (remove_lines p lines))
+
+-- else with one line in their place, of the table, which is empty.
+abbrev pub EmptyUnits : Type 0
+EmptyUnits = (p : Address) (lines : List Line) → TakesTable lines p → KeepsRules (named lines)
+    → (piece next : Piece) × (base : ℕ) × (v : Value) × (comment : Option Piece) × (front back : List TextUnit)
+    × (units lines ≡ front ++ (pair_line_units piece p base v comment ++ back))
+    × (units (remove_lines p lines) ≡ front ++ (pair_line_units next (parent_of p) base empty_table None ++ back))

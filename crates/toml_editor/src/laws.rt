@@ -7,7 +7,7 @@ ghost use Rattle.toml_editor.specs.ChangedUnits.{SetUnits};
 ghost use Rattle.toml_editor.specs.PlainAnswers.{FirstFaultIsAnswered, FirstSpreadIsAnswered, LongIsAnswered, PlainIsAnswered};
 ghost use Rattle.toml_editor.specs.LastTexts.{OneChange};
 ghost use Rattle.toml_editor.specs.InsertLaws.{InsertNames, InsertRules, InsertShort, InsertData, InsertForms, InsertOfProfile, InsertKeepsLines};
-ghost use Rattle.toml_editor.specs.RemoveLaws.{RemoveNames, RemoveGood, RemoveData, RemoveForms, RemoveOfProfile, RemoveKeepsLines};
+ghost use Rattle.toml_editor.specs.RemoveLaws.{EmptyNames, RemoveNames, RemoveGood, RemoveData, RemoveForms, RemoveOfProfile, RemoveKeepsLines};
 ghost use Rattle.toml_editor.specs.RenameLaws.{RenameNames, RenameGood, RenameData, RenameForms, RenameOfProfile, RenameKeepsLine};
 ghost use Rattle.toml_editor.specs.RenamedHeaders.{RenameAlong, RenameAlongElement};
 ghost use Rattle.toml_editor.specs.RenamedUnits.{RenameUnits};
@@ -16,7 +16,7 @@ ghost use Rattle.toml_editor.specs.StandingLaws.{RulesOrder, SetStands, Standing
 ghost use Rattle.toml_working.specs.Renaming.{RenameIsOutlined};
 ghost use Rattle.toml_editor.specs.SetLaws.{SetNames, SetRules, SetShort, SetData, SetForms, SetOfProfile, SetWithin, SetElsewhere, SetKeepsLine};
 ghost use Rattle.toml_working.specs.Setting.{SetIsOutlined};
-ghost use Rattle.toml_editor.specs.UnitBlocks.{InsertUnits, RemoveUnits};
+ghost use Rattle.toml_editor.specs.UnitBlocks.{EmptyUnits, InsertUnits, RemoveUnits};
 ghost use Rattle.toml_editor.specs.Steps.{GoodTextsAreDocuments, PlainIsWritten, PlainStep, PlainSteps, OneWritten, OneListWritten, StyleIsNewline};
 ghost use Rattle.toml_working.specs.Writing.{LinesAreWritten, TextIsWritten};
 
@@ -42,10 +42,11 @@ pub fn inserts()
     ensures forms { InsertForms }
 {}
 
-/// After a `remove` of a value that a line has by a key that is not dotted the lines name what they named, without the value and
-/// what is in it. They keep the table rules and the bound on addresses, have the data that the edit makes, and are in the forms.
+/// After a `remove` of a value of a line the lines name what they named, without what that line names; where the table right above the
+/// value would go with it, that is named as the line's value, an empty table. They keep the table rules and the bound on addresses, have the data that the edit makes, and are in the forms.
 pub fn removes()
     ensures names { RemoveNames }
+    ensures emptied { EmptyNames }
     ensures good { RemoveGood }
     ensures data { RemoveData }
     ensures forms { RemoveForms }
@@ -112,6 +113,7 @@ pub fn bares()
 pub fn units()
     ensures insert { InsertUnits }
     ensures remove { RemoveUnits }
+    ensures empty { EmptyUnits }
     ensures rename { RenameUnits }
     ensures set { SetUnits }
 {}
@@ -192,8 +194,8 @@ pub fn standing_inserted()
     ensures alone { HeaderIsAlone }
 {}
 
-/// The value of a key at the root is that of a line whose key is not dotted, and the lines after a `remove` of a line are what the
-/// `remove` makes of the lines, by what finds them.
+/// The value of a key at the root is that of a line, and the lines after a `remove` of the value of a line are what the `remove` makes of
+/// the lines, by what finds them.
 pub fn standing_removed()
     ensures root { RootPairIsLine }
     ensures remove { RemoveStands }

@@ -11,7 +11,6 @@ pub mod Apart
 -- what is opened
 pub mod Opening
 pub mod KnownLines
-pub mod OpenKinds
 -- how new text is laid out
 pub mod Spacings
 pub mod Looks

@@ -1,7 +1,6 @@
 //! An opened line, and what is in it, as the edits made so far have left it. It has the shapes of the tree of a document, but
 //! its pieces are kept or new.
 ghost use Rattle.std.specs.Prelude.{◌≡◌, ◌↔◌, ◌++◌, ◌∷◌, [], IfOk, OnOk, IsTrue, None, option_map};
-ghost use Rattle.toml_layout.specs.OpenKinds.{is_tables};
 ghost use Rattle.toml_layout.specs.OpenOutlines.{leaf_text, gap_part_text, gap_read, line as outlined};
 ghost use Rattle.toml_layout.specs.Outlines.{no_line};
 ghost use Rattle.toml_layout.specs.TreeOutlines.{ws_part};
@@ -242,17 +241,5 @@ impl<'t> Gap<'t> {
         ensures { OnOk result (self.new.parts.items ≡ self.old.parts.items ++ other.entry.parts.items) }
     {
         self.parts.extend_from_slice(&other.parts)
-    }
-}
-
-impl Expr<'_> {
-    /// Whether it is the header of an array of tables.
-    pub fn is_tables(&self) -> bool
-        ensures { result ≡ is_tables self.now }
-    {
-        match self {
-            Expr::Header(header) => matches!(header.brackets, Brackets::Two),
-            Expr::Blank | Expr::Pair(_) => false,
-        }
     }
 }

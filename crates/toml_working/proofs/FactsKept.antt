@@ -28,13 +28,12 @@ length_zero (x ∷ xs) is = absurd (omega (arith, is))
 empty_is : (xs : List ℕ) → IsTrue (length xs == 0) ↔ (xs ≡ [])
 empty_is xs = (λ is. length_zero xs (eqb-true (length xs) 0 is), λ none. eq-eqb (length xs) 0 (ap length none))
 
-pub fact_kept : (l : Line) (f : LineFacts) (kept : Kept) → f ≡ fact_of l → kept.span ≡ f.span → kept.is_tables ≡ f.is_tables → kept.is_last ≡ f.is_last → IsKeptOf l kept
-fact_kept l f kept is span tables last =
+pub fact_kept : (l : Line) (f : LineFacts) (kept : Kept) → f ≡ fact_of l → kept.span ≡ f.span → kept.is_last ≡ f.is_last → IsKeptOf l kept
+fact_kept l f kept is span last =
     let flag : kept.is_last ≡ (length l.newline.text == 0) = last ∙ ap (λ (x : LineFacts). x.is_last) is in
     let empty = empty_is l.newline.text in
     record {
       start = ap (λ s. s.start) (span ∙ ap (λ (x : LineFacts). x.span) is);
       end = ap (λ s. s.end) (span ∙ ap (λ (x : LineFacts). x.span) is);
       last = (λ yes. empty.0 (sym flag ∙ yes), λ none. flag ∙ empty.1 none);
-      tables = tables ∙ ap (λ (x : LineFacts). x.is_tables) is;
     }

@@ -28,6 +28,7 @@ mod SetStanding
 mod OneByOne
 mod Renamed
 mod RenamedSlots
+mod MadeBeside
 mod Removed
 mod RemovedOne
 mod HeldLines

@@ -102,5 +102,4 @@ module _ (text : List ℕ) (read : Read) (kept : Kept) (l : Line) (is : slice_ge
     held = record { order = omega (arith, starts, stops); start = subst (IsCharBoundary text) (sym starts) line.start; end = subst (IsCharBoundary text) (sym stops) line.end };
     spells = ap (λ n. slice_range text n kept.span.end) starts ∙ ap (slice_range text line.at) stops ∙ lie_slice text line.at (line_parts l) line.lies ∙ sym (line_outlined_is l);
     last = says.last;
-    tables = says.tables;
   }

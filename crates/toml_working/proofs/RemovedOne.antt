@@ -1,19 +1,24 @@
 -- The line that a `remove` takes out: no other stands at the address or below it.
-use Rattle.std.proofs.Common.{◌≡◌, ◌∙◌, ℕ, ◌+◌, ◌==◌, ◌<◌, ◌≤◌, Bool, true, false, cond, ◌||◌, List, [], ◌∷◌, ◌++◌, length, set, Option, Some, None, refl, ap, ap₂, sym, subst, arith, true≢false, append_assoc}
+use Rattle.std.proofs.Common.{◌≡◌, ◌∙◌, ◌⊎◌, inl, inr, ℕ, ◌+◌, ◌-◌, ◌<◌, Bool, true, false, cond, ◌&&◌, ◌||◌, List, [], ◌∷◌, ◌++◌, length, length-append, set, take, Option, Some, None, refl, ap, ap₂, sym, subst, arith, true≢false, append_assoc}
+use Rattle.std.specs.Bool.{nat_lt}
 use Rattle.std.specs.List.{list_any}
-use Rattle.std.specs.Prelude.{slice_get}
-use Rattle.std.proofs.lemmas.Bool.{and_parts, eqb-true}
+use Rattle.std.specs.Prelude.{flat_map, not, slice_get}
+use Rattle.std.proofs.lemmas.Bool.{and_parts}
+use Rattle.std.proofs.lemmas.List.{take-append-le, take_all}
 use Rattle.std.proofs.lemmas.List.Folds.{list_any-append}
-use Rattle.toml_names.proofs.Proved.{same_address-decides}
-use Rattle.toml_names.specs.model.Addresses.{Address}
+use Rattle.toml_names.proofs.Proved.{same_address-decides, same_step-self}
+use Rattle.toml_names.specs.declared.model.address.Step.{Step}
+use Rattle.toml_names.specs.model.Addresses.{Address, is_above}
 use Rattle.toml_text.specs.Source.{text_of}
 use Rattle.toml_tree.specs.Spells.{EachIs}
 use Rattle.toml_working.specs.declared.lines.Slot.{Slot}
 use Rattle.toml_working.specs.declared.lines.Sought.TheVariants as sought
 use Rattle.toml_working.specs.declared.working.Position.{Position}
 use Rattle.toml_working.specs.declared.working.Tree.{Tree}
-use Rattle.toml_working.specs.RemoveStanding.{is_pair, is_undotted_at, is_undotted_pair, is_value_at, left_standing, remove_standing, without}
-use Rattle.toml_working.specs.RemovingIn.{IsAtMostOneBelow, LeavesSlot, LeavesSlots, RemovesLines, base_of, steps_or_zero}
+use Rattle.toml_working.specs.InValues.{IsParent}
+use Rattle.toml_working.specs.RemoveStanding.{is_pair, is_undotted_at, is_undotted_pair, is_value_at, leaves_parent, left_of_pair, makes, makes_beside, removed_one, remove_standing}
+use Rattle.toml_layout.specs.Holders.{parent_of}
+use Rattle.toml_working.specs.RemovingIn.{LeavesSlot, RemovesLines, TakesOutLine, TellsStays, base_of, stays_behind, stays_past, steps_or_zero, left_of_all}
 use Rattle.toml_working.specs.Seeing.{HoldsNone, IsSoughtAt, line_at, steps_of, steps_to}
 use Rattle.toml_working.specs.Standing.{Standing, Read, StandAlone, covers, covers_at, holds, is_below, leads_to, lies_below, slot_standing, slots_standing}
 use Rattle.toml_layout.specs.Beginnings.{begins}
@@ -22,9 +27,10 @@ use Rattle.toml_working.proofs.Beginning.{begins_self}
 use Rattle.toml_working.proofs.Alone.{item_split, slot_split, split_within}
 use Rattle.toml_working.proofs.AtPlace.{holder_at}
 use Rattle.toml_working.proofs.Each.{each_back, each_front, each_get, each_set, each_weaker}
+use Rattle.toml_working.proofs.Removed.{out_append}
 use Rattle.toml_working.proofs.Turned.{one_turned}
-use Rattle.toml_working.proofs.HeldLines.{any_weaker, steps_left}
-use Rattle.toml_working.specs.HeldLines.{HeldIsNoLine, UndottedIsPair, has_container_at}
+use Rattle.toml_working.proofs.HeldLines.{steps_left}
+use Rattle.toml_working.specs.HeldLines.{HeldIsNoLine, has_container_at}
 use Rattle.toml_working.proofs.Pairwise.{PairsAre, pairs_of_all}
 
 -- the address of a pair's line
@@ -92,16 +98,39 @@ holder_is p front s back leads apart there =
     sym none_back ∙ ap (λ b. b || (is_pair p s || list_any (is_pair p) back)) (sym (none_is p s front leads apart.0))
     ∙ sym (list_any-append (is_pair p) front (s ∷ back)) ∙ there
 
--- lines of which the test is false stay
-all_stay : (test : Standing → Bool) (xs : List Standing) → EachIs (λ t. test t ≡ false) xs → without test xs ≡ xs
-all_stay test [] h = refl
-all_stay test (x ∷ xs) h = ap₂ (λ b r. cond b (left_standing x) (x ∷ []) ++ r) h.0 (all_stay test xs h.1)
+-- lines that stand elsewhere stay, and so does the table
+apart_stay : (p q : Address) (stays : Bool) (xs : List Standing) → EachIs (λ t. is_below p t ≡ false) xs
+    → (left_of_all p q stays xs ≡ xs) × (stays_behind p q stays xs ≡ stays)
+apart_stay p q stays [] h = (refl, refl)
+apart_stay p q stays (x ∷ xs) h =
+    let past : stays_past p q stays x ≡ stays = ap (λ b. stays || (b && makes q x.base x.address)) h.0 ∙ or_none stays in
+    let (more, same) = apart_stay p q stays xs h.1 in (
+      ap₂ (λ b r. cond b (left_of_pair q (stays || not (makes q x.base x.address)) x) (x ∷ []) ++ r) h.0 (ap (λ b. left_of_all p q b xs) past ∙ more),
+      ap (λ b. stays_behind p q b xs) past ∙ same,
+    )
 
-one_goes : (test : Standing → Bool) (front : List Standing) (s : Standing) (back : List Standing) → EachIs (λ t. test t ≡ false) front → test s ≡ true
-    → EachIs (λ t. test t ≡ false) back → without test (front ++ s ∷ back) ≡ front ++ (left_standing s ++ back)
-one_goes test [] s back none here rest = ap₂ (λ b r. cond b (left_standing s) (s ∷ []) ++ r) here (all_stay test back rest)
-one_goes test (x ∷ front) s back none here rest =
-    ap₂ (λ b r. cond b (left_standing x) (x ∷ []) ++ r) none.0 (one_goes test front s back none.1 here rest)
+-- so one line alone is taken out
+one_taken : (p q : Address) (stays : Bool) (front : List Standing) (s : Standing) (back : List Standing) → EachIs (λ t. is_below p t ≡ false) front
+    → is_below p s ≡ true → EachIs (λ t. is_below p t ≡ false) back
+    → left_of_all p q stays (front ++ s ∷ back) ≡ front ++ (left_of_pair q (stays || not (makes q s.base s.address)) s ++ back)
+one_taken p q stays front s back ahead here after =
+    let its = left_of_pair q (stays || not (makes q s.base s.address)) s in
+    let (first, same) = apart_stay p q stays front ahead in
+    out_append p q stays front (s ∷ back)
+    ∙ ap₂ (λ xs b. xs ++ left_of_all p q b (s ∷ back)) first same
+    ∙ ap₂ (λ b r. front ++ (cond b its (s ∷ []) ++ r)) here (apart_stay p q (stays_past p q stays s) back after).0
+
+-- by the definition, too
+others_stay : (p : Address) (stays : Bool) (xs : List Standing) → EachIs (λ t. is_pair p t ≡ false) xs → flat_map (removed_one p stays) xs ≡ xs
+others_stay p stays [] h = refl
+others_stay p stays (x ∷ xs) h = ap₂ (λ b r. cond b (left_of_pair (parent_of p) stays x) (x ∷ []) ++ r) h.0 (others_stay p stays xs h.1)
+
+one_removed : (p : Address) (stays : Bool) (front : List Standing) (s : Standing) (back : List Standing) → EachIs (λ t. is_pair p t ≡ false) front
+    → is_pair p s ≡ true → EachIs (λ t. is_pair p t ≡ false) back
+    → flat_map (removed_one p stays) (front ++ s ∷ back) ≡ front ++ (left_of_pair (parent_of p) stays s ++ back)
+one_removed p stays [] s back ahead here after = ap₂ (λ b r. cond b (left_of_pair (parent_of p) stays s) (s ∷ []) ++ r) here (others_stay p stays back after)
+one_removed p stays (x ∷ front) s back ahead here after =
+    ap₂ (λ b r. cond b (left_of_pair (parent_of p) stays x) (x ∷ []) ++ r) ahead.0 (one_removed p stays front s back ahead.1 here after)
 
 -- the lines that are left, those of one slot changed
 regrouped : (before front left back behind : List Standing) → before ++ ((front ++ (left ++ back)) ++ behind) ≡ (before ++ front) ++ (left ++ (back ++ behind))
@@ -151,72 +180,116 @@ is_placed p read slots at ss found are alone there =
       after = each_weaker (λ t. covers s t ≡ false) (λ t. is_below p t ≡ false) elsewhere (back ++ behind) apart.1;
     }
 
--- a pair whose key is not dotted is one,
+-- ---- whether the table right above it stays
+
+-- a pair whose key is not dotted is one
 undotted_pair : (p : Address) (base : Option ℕ) (own : Option Address) → is_undotted_at p base own ≡ true → is_value_at p base own ≡ true
 undotted_pair p None own is = cc
-undotted_pair p (Some n) own is = (and_parts (is_value_at p (Some n) own) (length p == n + 1) is).0
-
--- and its table has one step less than it
-undotted_base : (p : Address) (base : Option ℕ) (own : Option Address) → is_undotted_at p base own ≡ true → length p ≤ steps_or_zero base + 1
-undotted_base p None own is = cc
-undotted_base p (Some n) own is =
-    let same : length p ≡ n + 1 = eqb-true (length p) (n + 1) (and_parts (is_value_at p (Some n) own) (length p == n + 1) is).1 in
-    omega (arith, same)
-
-pub undotted_is_pair : UndottedIsPair
-undotted_is_pair p ss = any_weaker (is_undotted_pair p) (is_pair p) (λ s is. undotted_pair p s.base s.address is) ss
+undotted_pair p (Some n) own is = (and_parts (is_value_at p (Some n) own) (not (nat_lt n (length p - 1))) is).0
 
 -- of lines that stand alone it is the one that is the pair's
-undotted_here : (p : Address) (front : List Standing) (s : Standing) (back : List Standing) → is_pair p s ≡ true → EachIs (λ t. is_below p t ≡ false) front
-    → EachIs (λ t. is_below p t ≡ false) back → list_any (is_undotted_pair p) (front ++ s ∷ back) ≡ true → is_undotted_pair p s ≡ true
-undotted_here p front s back pair ahead after there =
-    sym (list_any-append (is_undotted_pair p) front (s ∷ back)
-    ∙ ap₂ (λ a b. a || (is_undotted_pair p s || b)) (none_there front ahead) (none_there back after) ∙ or_none (is_undotted_pair p s)) ∙ there
+undotted_here : (p : Address) (front : List Standing) (s : Standing) (back : List Standing) → EachIs (λ t. is_below p t ≡ false) front
+    → EachIs (λ t. is_below p t ≡ false) back → list_any (is_undotted_pair p) (front ++ s ∷ back) ≡ is_undotted_pair p s
+undotted_here p front s back ahead after =
+    list_any-append (is_undotted_pair p) front (s ∷ back)
+    ∙ ap₂ (λ a b. a || (is_undotted_pair p s || b)) (none_there front ahead) (none_there back after) ∙ or_none (is_undotted_pair p s)
   where
-    not_here : (q : Address) (t : Standing) → is_below q t ≡ false → (b : Bool) → is_undotted_pair q t ≡ b → is_undotted_pair q t ≡ false
-    not_here q t apart true is = absurd (true≢false (sym (pair_below q t (undotted_pair q t.base t.address is)) ∙ apart))
-    not_here q t apart false is = is
+    not_here : (t : Standing) → is_below p t ≡ false → (b : Bool) → is_undotted_pair p t ≡ b → is_undotted_pair p t ≡ false
+    not_here t apart true is = absurd (true≢false (sym (pair_below p t (undotted_pair p t.base t.address is)) ∙ apart))
+    not_here t apart false is = is
 
     none_there : (ts : List Standing) → EachIs (λ t. is_below p t ≡ false) ts → list_any (is_undotted_pair p) ts ≡ false
     none_there [] h = refl
-    none_there (t ∷ ts) h = ap₂ (λ a b. a || b) (not_here p t h.0 (is_undotted_pair p t) refl) (none_there ts h.1)
+    none_there (t ∷ ts) h = ap₂ (λ a b. a || b) (not_here t h.0 (is_undotted_pair p t) refl) (none_there ts h.1)
+
+parent_is : (q : Address) (last : Step) → parent_of (q ++ last ∷ []) ≡ q
+parent_is q last =
+    let long : length (q ++ last ∷ []) ≡ length q + 1 = length-append q (last ∷ []) in
+    let less : length (q ++ last ∷ []) - 1 ≡ length q = omega (arith, long) in
+    ap (λ n. take n (q ++ last ∷ [])) less ∙ take-append-le (length q) q (last ∷ []) (omega arith) ∙ take_all (length q) q (omega arith)
+
+is_over : (q : Address) (last : Step) → is_above q (q ++ last ∷ []) ≡ true
+is_over [] last = refl
+is_over (s ∷ q) last = ap (λ b. b && is_above q (q ++ last ∷ [])) (same_step-self s) ∙ is_over q last
+
+-- what stays of the line, by what the code has asked
+same_left : (n : ℕ) (q : Address) (last : Step) (s : Standing) (stays made some : Bool) → s.base ≡ Some n → s.address ≡ Some (q ++ last ∷ [])
+    → stays ≡ (not (nat_lt n (length q)) || some) → made ≡ makes q s.base s.address
+    → (stays || not made) ≡ (is_undotted_pair (q ++ last ∷ []) s || some)
+same_left n q last s stays made some base own is made_is =
+    let p = q ++ last ∷ [] in
+    let long : length p ≡ length q + 1 = length-append q (last ∷ []) in
+    let less : length p - 1 ≡ length q = omega (arith, long) in
+    let dotted = nat_lt n (length q) in
+    let makes_it : made ≡ dotted =
+    made_is ∙ ap₂ (makes q) base own ∙ ap (λ b. (dotted && b) || false) (is_over q last) ∙ or_none (dotted && true) ∙ and_true dotted in
+    let undotted : is_undotted_pair p s ≡ not dotted =
+    ap₂ (is_undotted_at p) base own ∙ ap₂ (λ b m. b && not (nat_lt n m)) ((same_address-decides p p).1 refl) less in
+    ap₂ (λ a m. a || not m) is makes_it ∙ by dotted some ∙ ap (λ b. b || some) (sym undotted)
+  where
+    and_true : (b : Bool) → (b && true) ≡ b
+    and_true true = refl
+    and_true false = refl
+
+    by : (d m : Bool) → ((not d || m) || not d) ≡ (not d || m)
+    by true m = or_none m
+    by false m = refl
 
 -- what is left of the slot of that line
-placed_goes : (p : Address) (read : Read) (old now : List Slot) (at : Position) (ss : List Standing) (t : Slot) (h : IsPlaced p read old at ss)
-    → now ≡ set old at.slot t → slot_standing read t ≡ without (is_below p) (slot_standing read h.slot) → slots_standing read now ≡ remove_standing p ss
-placed_goes p read old now at ss t h put left =
+placed_goes : (p q : Address) (last : Step) (stays : Bool) (read : Read) (old now : List Slot) (at : Position) (ss : List Standing) (t : Slot)
+    (h : IsPlaced p read old at ss) → p ≡ q ++ last ∷ [] → slots_standing read old ≡ ss → TellsStays p q read old at stays → now ≡ set old at.slot t
+    → slot_standing read t ≡ left_of_all p q stays (slot_standing read h.slot) → slots_standing read now ≡ remove_standing p ss
+placed_goes p q last stays read old now at ss t h is are tells put left =
     let no_pairs : (xs : List Standing) → EachIs (λ x. is_below p x ≡ false) xs → EachIs (λ x. is_pair p x ≡ false) xs =
     λ xs. each_weaker (λ x. is_below p x ≡ false) (λ x. is_pair p x ≡ false) (λ x k. no_pair p x.base x.address k) xs in
-    let slot_left = left ∙ ap (without (is_below p)) h.own
-    ∙ one_goes (is_below p) h.front h.line h.back (each_back _ h.before h.front h.ahead) (pair_below p h.line h.pair) (each_front _ h.back h.behind h.after) in
+    let its = left_of_pair q (stays || not (makes q h.line.base h.line.address)) h.line in
+    let slot_left = left ∙ ap (left_of_all p q stays) h.own
+    ∙ one_taken p q stays h.front h.line h.back (each_back _ h.before h.front h.ahead) (pair_below p h.line h.pair) (each_front _ h.back h.behind h.after) in
+    let (n, base) = pair_base p h.line.base h.line.address h.pair in
+    let own = pair_address p h.line.base h.line.address h.pair ∙ ap Some is in
+    let told = tells ∙ ap₂ (λ o xs. not (nat_lt (base_of o) (length q)) || list_any (makes_beside q p) xs) h.placed are
+    ∙ ap (λ b. not (nat_lt (steps_or_zero b) (length q)) || list_any (makes_beside q p) ss) base in
+    let some = same_left n q last h.line stays _ (list_any (makes_beside q p) ss) base own told refl in
+    let undotted = undotted_here p (h.before ++ h.front) h.line (h.back ++ h.behind) h.ahead h.after in
+    let same : (stays || not (makes q h.line.base h.line.address)) ≡ leaves_parent p ss =
+    some
+    ∙ ap₂ (λ a b. a || list_any (makes_beside b p) ss)
+    (ap (λ x. is_undotted_pair x h.line) (sym is) ∙ sym undotted ∙ ap (list_any (is_undotted_pair p)) (sym h.all)) (sym (ap parent_of is ∙ parent_is q last)) in
     ap (slots_standing read) put ∙ h.set_to t ∙ ap (λ r. h.before ++ (r ++ h.behind)) slot_left
-    ∙ regrouped h.before h.front (left_standing h.line) h.back h.behind
-    ∙ sym (one_goes (is_pair p) (h.before ++ h.front) h.line (h.back ++ h.behind) (no_pairs _ h.ahead) h.pair (no_pairs _ h.after))
-    ∙ ap (remove_standing p) (sym h.all)
+    ∙ regrouped h.before h.front its h.back h.behind
+    ∙ ap (λ r. (h.before ++ h.front) ++ (r ++ (h.back ++ h.behind))) (ap₂ (λ a b. left_of_pair a b h.line) (sym (ap parent_of is ∙ parent_is q last)) same)
+    ∙ sym (one_removed p (leaves_parent p ss) (h.before ++ h.front) h.line (h.back ++ h.behind) (no_pairs _ h.ahead) h.pair (no_pairs _ h.after))
+    ∙ ap (flat_map (removed_one p (leaves_parent p ss))) (sym h.all)
+  where
+    pair_base : (a : Address) (base : Option ℕ) (own : Option Address) → is_value_at a base own ≡ true → (n : ℕ) × (base ≡ Some n)
+    pair_base a None own e = cc
+    pair_base a (Some n) own e = (n, refl)
 
-pub holder_goes : (p : Address) (read : Read) (old now : Tree) (at : Position) → KeepsRest old now
-    → (IsAtMostOneBelow p read old.slots.items at → LeavesSlots p read.units at.slot old.slots.items now.slots.items)
+pub holder_goes : (p : Address) (read : Read) (old now : Tree) (at : Position) → KeepsRest old now → TakesOutLine p read at old now
     → IsSoughtAt sought.Holder p read old.slots.items at → RemovesLines p read old now
-holder_goes p read old now at rest leaves found ss stands ordered there =
+holder_goes p read old now at rest takes found not_root ss stands ordered there =
     let text = text_of old.texts.source in
-    let h = is_placed p read old.slots.items at ss found stands.are ordered.alone (undotted_is_pair p ss there) in
-    let undotted = undotted_here p (h.before ++ h.front) h.line (h.back ++ h.behind) h.pair h.ahead h.after
-    (subst (λ xs. list_any (is_undotted_pair p) xs ≡ true) h.all there) in
-    let low = subst (λ o. length p ≤ base_of o + 1) (sym h.placed) (undotted_base p h.line.base h.line.address undotted) in
-    let (t, put, left) = one_turned (LeavesSlot p read.units) at.slot old.slots.items now.slots.items h.slot h.there (leaves low) in
-    let (kept, is) = left text read refl (each_get (SlotKept text read) old.slots.items at.slot h.slot stands.kept h.there) in (
+    let h = is_placed p read old.slots.items at ss found stands.are ordered.alone there in
+    let R = LeavesSlot old.texts read p takes.parent takes.stays in
+    let (t, put, left) = one_turned R at.slot old.slots.items now.slots.items h.slot h.there takes.leaves in
+    let (kept, is) = left (each_get (SlotKept text read) old.slots.items at.slot h.slot stands.kept h.there) in
+    let (last, parted) = parent takes.is_parent in (
       rest,
       record {
         kept = subst (EachIs (SlotKept text read)) (sym put) (each_set (SlotKept text read) old.slots.items at.slot t stands.kept kept);
-        are = placed_goes p read old.slots.items now.slots.items at ss t h put is;
+        are = placed_goes p takes.parent last takes.stays read old.slots.items now.slots.items at ss t h parted stands.are takes.tells put is;
       },
     )
+  where
+    parent : IsParent p takes.parent → (last : Step) × (p ≡ takes.parent ++ last ∷ [])
+    parent (inl none) = absurd (not_root none)
+    parent (inr found_parent) = found_parent
 
 -- the line at the place does not hold it in its value
 pub never_inside : (p : Address) (read : Read) (old now : Tree) (at : Position) (steps : ℕ) → steps ≡ steps_of (line_at read old.slots.items at) → steps < length p
     → IsSoughtAt sought.Holder p read old.slots.items at → RemovesLines p read old now
-never_inside p read old now at steps counts low found ss stands ordered there =
-    let h = is_placed p read old.slots.items at ss found stands.are ordered.alone (undotted_is_pair p ss there) in
+never_inside p read old now at steps counts low found not_root ss stands ordered there =
+    let h = is_placed p read old.slots.items at ss found stands.are ordered.alone there in
     let same : steps ≡ length p = counts ∙ ap steps_of h.placed ∙ ap steps_to (pair_address p h.line.base h.line.address h.pair) in
     absurd (omega arith)
 
@@ -234,30 +307,11 @@ any_holds p (s ∷ ss) there none = by (is_pair p s) refl there none (any_holds 
     by true is h k rest = true≢false (ap (λ b. b || list_any (holds p) ss) (sym (pair_holds p s.base s.address is)) ∙ k)
     by false is h k rest = rest h (later (holds p s) k)
 
--- at the root no pair stands
-no_pair_at_root : (s : Standing) → is_undotted_pair [] s ≡ true → ⊥
-no_pair_at_root s is = by s.base s.address is
-  where
-    by : (base : Option ℕ) (own : Option Address) → is_undotted_at [] base own ≡ true → ⊥
-    by None own h = cc
-    by (Some n) own h =
-        let same : 0 ≡ n + 1 = eqb-true 0 (n + 1) (and_parts (is_value_at [] (Some n) own) (0 == n + 1) h).1 in
-        absurd (omega (arith, same))
-
-none_at_root : (ss : List Standing) → list_any (is_undotted_pair []) ss ≡ true → ⊥
-none_at_root [] h = true≢false (sym h)
-none_at_root (s ∷ ss) h = by (none_at_root ss) (is_undotted_pair [] s) refl h
-  where
-    by : (list_any (is_undotted_pair []) ss ≡ true → ⊥) → (b : Bool) → is_undotted_pair [] s ≡ b → (b || list_any (is_undotted_pair []) ss) ≡ true → ⊥
-    by behind true is there = no_pair_at_root s is
-    by behind false is there = behind there
-
 -- where no line holds it, no such edit is made
 pub none_goes : (p : Address) (read : Read) (old now : Tree) → HoldsNone p read.units old.slots.items → RemovesLines p read old now
-none_goes p read old now none ss stands ordered there =
-    let not_root : ¬ (p ≡ []) = λ is. none_at_root ss (subst (λ q. list_any (is_undotted_pair q) ss ≡ true) is there) in
+none_goes p read old now none not_root ss stands ordered there =
     let all = none not_root read.lines (subst StandAlone (sym stands.are) ordered.alone) in
-    absurd (any_holds p ss (undotted_is_pair p ss there) (subst (λ xs. list_any (holds p) xs ≡ false) stands.are all))
+    absurd (any_holds p ss there (subst (λ xs. list_any (holds p) xs ≡ false) stands.are all))
 
 -- ---- what is held in a value
 

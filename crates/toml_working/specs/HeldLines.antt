@@ -15,7 +15,7 @@ use Rattle.toml_layout.specs.OpenOutlines.{value}
 use Rattle.toml_layout.specs.Outlines.{ExprOutline, Header, Nothing, Pair, ValueOutline}
 use Rattle.toml_working.specs.declared.lines.Slot.{Slot}
 use Rattle.toml_working.specs.declared.working.Tree.{Tree}
-use Rattle.toml_working.specs.RemoveStanding.{is_pair, is_undotted_pair}
+use Rattle.toml_working.specs.RemoveStanding.{is_pair}
 use Rattle.toml_working.specs.Seeing.{steps_to}
 use Rattle.toml_working.specs.Standing.{Standing, Read, AreOrdered, has, holds, set_standing}
 use Rattle.toml_working.specs.Stands.{Stands}
@@ -78,9 +78,6 @@ ParentIsHeld = (q : Address) (last : Step) (ss : List Standing) → list_any (ha
 abbrev pub HeldIsInside : Type 0
 HeldIsInside = (p : Address) (ss : List Standing) → list_any (has_container_at p) ss ≡ true → (¬ (p ≡ [])) × (list_any (holds_inside p) ss ≡ true)
 
--- Laws: what is so held is no line's own value, of lines as the table rules have them, and what has a key that is not dotted is one.
+-- Law: what is so held is no line's own value, of lines as the table rules have them.
 abbrev pub HeldIsNoLine : Type 0
 HeldIsNoLine = (p : Address) (ss : List Standing) → AreOrdered ss → list_any (has_container_at p) ss ≡ true → list_any (is_pair p) ss ≡ true → ⊥
-
-abbrev pub UndottedIsPair : Type 0
-UndottedIsPair = (p : Address) (ss : List Standing) → list_any (is_undotted_pair p) ss ≡ true → list_any (is_pair p) ss ≡ true

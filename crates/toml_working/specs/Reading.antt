@@ -11,13 +11,11 @@ use Rattle.toml_units.specs.Taken.{HasTaken}
 use Rattle.toml_working.specs.declared.reading.LineFacts.{LineFacts}
 use Rattle.toml_working.specs.declared.reading.ReadDocument.{ReadDocument}
 use Rattle.toml_layout.specs.KnownLines.{lines_known}
-use Rattle.toml_working.specs.Stands.{heads_tables}
 
 -- what the working tree knows of a line: where it stands with its newline, and what it is
 abbrev pub fact_of : Line → LineFacts
 fact_of l = record {
   span = record { start = expr_start l.expr; end = l.newline.start + length l.newline.text };
-  is_tables = heads_tables l.expr;
   is_last = length l.newline.text == 0;
 }
 

@@ -7,7 +7,6 @@ use Rattle.std.specs.declared.alloc.Global.{Global}
 use Rattle.toml_names.specs.model.Addresses.{Address}
 use Rattle.toml_tree.specs.Spells.{EachIs}
 use Rattle.toml_tree.specs.Tree as tree
-use Rattle.toml_tree.specs.Tree.{Expr, BlankLine, KeyValLine, TableLine, ArrayTableLine}
 use Rattle.toml_units.specs.declared.unit.Unit.{Unit as ReadUnit}
 use Rattle.toml_working.specs.declared.lines.Body.{Body}
 use Rattle.toml_working.specs.declared.lines.Body.TheVariants as bodies
@@ -22,13 +21,6 @@ use Rattle.toml_working.specs.Seeing.{kept_found}
 use Rattle.toml_working.specs.Standing.{Standing, Read, AreOrdered, slots_standing, set_standing, has}
 use Rattle.toml_layout.specs.TreeOutlines.{line_outline}
 
--- whether a line is the header of an array of tables
-abbrev pub heads_tables : Expr → Bool
-heads_tables (BlankLine b) = false
-heads_tables (KeyValLine ws pair tail) = false
-heads_tables (TableLine ws header tail) = false
-heads_tables (ArrayTableLine ws header tail) = true
-
 -- it is a line of the document that stands in the text where its span says, and what it says of that line is so
 pub record IsKept (text : List ℕ) (read : Read) (kept : Kept) : Type 0 where
   pub line : tree.Line
@@ -37,7 +29,6 @@ pub record IsKept (text : List ℕ) (read : Read) (kept : Kept) : Type 0 where
   pub held : IsHeld text kept.span
   pub spells : slice_range text kept.span.start kept.span.end ≡ line_outlined (line_outline line)
   pub last : IsTrue kept.is_last ↔ (line.newline.text ≡ [])
-  pub tables : kept.is_tables ≡ heads_tables line.expr
 
 abbrev pub BodyKept : List ℕ → Read → Body → Type 0
 BodyKept text read (bodies.Kept kept) = IsKept text read kept

@@ -22,7 +22,7 @@ use Rattle.toml_working.specs.declared.working.Tree.{Tree}
 use Rattle.toml_layout.specs.OpenOutlines.{leaf_text}
 use Rattle.toml_working.specs.Reading.{fact_of}
 use Rattle.toml_working.specs.Standing.{Read, standing}
-use Rattle.toml_working.specs.Stands.{Stands, heads_tables}
+use Rattle.toml_working.specs.Stands.{Stands}
 use Rattle.toml_working.specs.Written.{style_of}
 
 -- the document as the working tree looks at it, by its units and its lines
@@ -53,7 +53,6 @@ pub record IsKeptOf (l : Line) (kept : Kept) : Type 0 where
   pub start : kept.span.start ≡ expr_start l.expr
   pub end : kept.span.end ≡ l.newline.start + length l.newline.text
   pub last : IsTrue kept.is_last ↔ (l.newline.text ≡ [])
-  pub tables : kept.is_tables ≡ heads_tables l.expr
 
 -- The unit is a line, and of the line with this number it is kept what it is.
 pub record KeepsLine (lines : List Line) (number : ℕ) (u : TextUnit) (first : ℕ) (kept : Kept) : Type 0 where

@@ -15,7 +15,7 @@ use Rattle.toml_working.specs.Manners.{Manner}
 use Rattle.toml_working.specs.Setting.{set_lines}
 use Rattle.toml_working.specs.Inserting.{insert_in}
 use Rattle.toml_working.specs.Removing.{remove_lines}
-use Rattle.toml_working.specs.RemoveStanding.{is_undotted_pair}
+use Rattle.toml_working.specs.RemoveStanding.{is_pair}
 use Rattle.toml_working.specs.Renaming.{rename_lines}
 use Rattle.toml_working.specs.Seeing.{is_sought_line}
 use Rattle.toml_working.specs.Standing.{standing}
@@ -33,9 +33,9 @@ manner_of layout lines = record { newline = style_of lines; layout = layout }
 abbrev pub HasValue : List Line → Address → Type 0
 HasValue lines p = Any (λ m. (m.address ≡ p) × (is_lone m.role ≡ true)) (named lines)
 
--- a line has the value there, by a key that is not dotted
-abbrev pub HasUndottedLine : List Line → Address → Type 0
-HasUndottedLine lines p = list_any (is_undotted_pair p) (standing lines) ≡ true
+-- a line has the value there
+abbrev pub HasLine : List Line → Address → Type 0
+HasLine lines p = list_any (is_pair p) (standing lines) ≡ true
 
 -- the table at the address is the root, or lines have a header of it
 abbrev pub HasSection : List Line → Address → Type 0
@@ -47,7 +47,7 @@ AreEdited profile (set p text) manner old new = (v : Value) × IsValueIn profile
 AreEdited profile (insert p text) manner old new =
     (v : Value) × IsValueIn profile v text × (q : Address) × (name : List ℕ) × (p ≡ child q name) × HasSection old q × (new ≡ insert_in q name v manner old)
 AreEdited profile (rename p to) manner old new = new ≡ rename_lines p to old
-AreEdited profile (remove p) manner old new = HasUndottedLine old p × (new ≡ remove_lines p old)
+AreEdited profile (remove p) manner old new = HasLine old p × (new ≡ remove_lines p old)
 AreEdited profile _ manner old new = ⊥
 
 -- the text after it, the mark kept

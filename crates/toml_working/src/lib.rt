@@ -4,6 +4,7 @@
 
 mod comments;
 mod elements;
+mod emptying;
 mod flat;
 mod guessing;
 mod headers;

@@ -26,8 +26,6 @@ pub struct Kept {
     pub line: usize,
     /// Where it stands, with its newline.
     pub span: Span,
-    /// Whether it is the header of an array of tables.
-    pub is_tables: bool,
     /// Whether it is the last line, which ends in no newline.
     pub is_last: bool,
     /// The number of its first unit, which is the line itself.
@@ -58,8 +56,6 @@ pub struct Seen<'a> {
     pub address: Option<&'a Address>,
     /// Of a line with a key and a value: how many steps the address of the table has in which it stands.
     pub base: Option<usize>,
-    /// Whether it is the header of an array of tables.
-    pub is_tables: bool,
 }
 
 /// What a line is sought as.
@@ -85,20 +81,17 @@ pub enum Slot<'t> {
 
 impl Kept {
     /// The line by what finds it.
-    fn seen(self, units: &[Unit]) -> Seen<'_>
+    pub(crate) fn seen(self, units: &[Unit]) -> Seen<'_>
         ensures { seen result ≡ kept_found units.now self }
     {
-        let is_tables = self.is_tables;
         match units.get(self.first) {
             Some(unit) => Seen {
                 address: unit.address.as_ref(),
                 base: unit.base,
-                is_tables,
             },
             None => Seen {
                 address: None,
                 base: None,
-                is_tables,
             },
         }
     }
@@ -128,15 +121,6 @@ impl<'t> Line<'t> {
         Seen {
             address: self.address.as_ref(),
             base: self.base,
-            is_tables: self.is_tables(),
-        }
-    }
-
-    /// Whether it is the header of an array of tables.
-    fn is_tables(&self) -> bool {
-        match &self.body {
-            Body::Kept(kept) => kept.is_tables,
-            Body::Open(line) => line.expr.is_tables(),
         }
     }
 
@@ -177,14 +161,6 @@ impl<'t> Line<'t> {
             }
         }
         Ok(())
-    }
-
-    /// Its pieces, if it is opened.
-    pub(crate) fn opened(&mut self) -> Option<&mut OpenLine<'t>> {
-        match &mut self.body {
-            Body::Open(line) => Some(line),
-            Body::Kept(_) => None,
-        }
     }
 
     /// Gives it another newline.

@@ -8,7 +8,6 @@ ghost use Rattle.toml_tree.specs.Tree.{Line as Lined};
 ghost use Rattle.toml_tree.specs.View.{expr as expr_tree};
 ghost use Rattle.toml_names.specs.reader.Texts.{RefusesText};
 ghost use Rattle.toml_working.specs.Reading.{HasRead, IsReadText, ReadsLine, fact_of};
-ghost use Rattle.toml_working.specs.Stands.{heads_tables};
 
 use std::alloc::{AllocError, Global};
 use toml_layout::KnownLine;
@@ -22,8 +21,6 @@ use toml_units::{TakenLines, Unit};
 pub struct LineFacts {
     /// Where it stands, with its newline.
     pub span: Span,
-    /// Whether it is the header of an array of tables.
-    pub is_tables: bool,
     /// Whether it is the last line, which ends in no newline.
     pub is_last: bool,
 }
@@ -150,7 +147,6 @@ fn facts_of(line: &Line<'_>) -> LineFacts
             start: start_of(line.expr()),
             end: line.newline().span().end,
         },
-        is_tables: is_tables(line.expr()),
         is_last: line.newline().text.is_empty(),
     }
 }
@@ -163,11 +159,4 @@ fn start_of(expr: &Expr<'_>) -> usize
         Expr::Blank(blank) => blank.ws.start,
         Expr::KeyVal { ws, .. } | Expr::Std { ws, .. } | Expr::Array { ws, .. } => ws.start,
     }
-}
-
-/// Whether it is the header of an array of tables.
-fn is_tables(expr: &Expr<'_>) -> bool
-    ensures { result ≡ heads_tables (expr_tree expr.now) }
-{
-    matches!(expr, Expr::Array { .. })
 }

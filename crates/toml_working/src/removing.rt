@@ -1,15 +1,19 @@
 //! `remove`: elements and pairs in a value, and lines.
-ghost use Rattle.std.specs.Prelude.{◌≡◌, IfOk, OnOk, true};
+ghost use Rattle.std.specs.Prelude.{◌≡◌, ◌∷◌, [], IfOk, OnOk};
+ghost use Rattle.std.specs.List.{list_any};
+ghost use Rattle.toml_layout.specs.KnownLines.{lines_known};
 ghost use Rattle.toml_working.specs.HeldLines.{TakesFromValue};
 ghost use Rattle.toml_working.specs.InValues.{IsParent};
-ghost use Rattle.toml_working.specs.RemovingIn.{IsAtMostOneBelow, LeavesBehind, LeavesLines, LeavesOf, LeavesSlot, LeavesSlots, RemovesLines};
+ghost use Rattle.toml_working.specs.RemoveStanding.{makes_apart};
+ghost use Rattle.toml_working.specs.RemovingIn.{LeavesBehind, LeavesLines, LeavesSlot, LeavesSlots, RemovesLines, SlotTellsMaker, TakesOutLine, TellsMaker, TellsStays, lines_of};
 ghost use Rattle.toml_working.specs.Seeing.{IsSoughtAt};
-ghost use Rattle.toml_working.specs.declared.lines.Sought.TheVariants.{Holder};
 ghost use Rattle.toml_working.specs.Starting.{read_of};
 ghost use Rattle.toml_working.specs.Stands.{KeepsRest};
+ghost use Rattle.toml_working.specs.declared.lines.Line.{Line as WorkingLine};
+ghost use Rattle.toml_working.specs.declared.lines.Sought.TheVariants.{Holder};
 
 use crate::lines::{Line, Slot};
-use crate::steps::{is_element, names_in};
+use crate::steps::is_element;
 use crate::working::{Before, Position, Tree};
 use std::alloc::{AllocError, Global};
 use std::mem;
@@ -17,7 +21,7 @@ use toml_layout::{Inside, KnownLine, Texts};
 use toml_names::{Address, Place, Step};
 use toml_units::Unit;
 
-/// What is left of the first removed line that mentions the parent, where no line that stays does.
+/// What is left of the first removed line that makes the parent, where no line that stays makes it.
 #[derive(Drop)]
 struct Parent {
     address: Address,
@@ -90,8 +94,7 @@ impl<'x> Tree<'x> {
         at: &Address,
     ) -> Result<(), AllocError>
         ensures rest { OnOk result (KeepsRest self.old self.new) }
-        ensures slots { let old = self.old.slots.items in
-            OnOk result (IsAtMostOneBelow at.now (read_of before.entry) old place → LeavesSlots at.now before.entry.units.now place.slot old self.new.slots.items) }
+        ensures line { OnOk result (TakesOutLine at.now (read_of before.entry) place self.old self.new) }
     {
         let mut parent = self.parent_of_line(before, at, place)?;
         remove_in(
@@ -104,27 +107,25 @@ impl<'x> Tree<'x> {
         )
     }
 
-    /// The parent of the address of a line. Where this is the table in whose section the line stands, the header of the section
-    /// mentions it.
+    /// The parent of the address of a line. Where this is the table in whose section the line stands, that stays.
     fn parent_of_line(
         &self,
         before: Before<'_, 'x>,
         at: &Address,
         place: Position,
     ) -> Result<Parent, AllocError>
-        ensures { IfOk result (λ parent. IsAtMostOneBelow at.now (read_of before.entry) self.now.slots.items place → parent.stays ≡ true) }
+        ensures address { IfOk result (λ parent. IsParent at.now parent.address) }
+        ensures stays { let read = read_of before.entry in
+            IfOk result (λ parent. TellsStays at.now parent.address read self.now.slots.items place parent.stays) }
     {
-        if self.base(before, place).saturating_add(1) < at.steps().len() {
-            return self.parent_left(before, at, place.slot);
-        }
-        Ok(Parent {
-            address: parent_of(self.alloc(), at)?,
-            stays: true,
-        })
+        let address = parent_of(self.alloc(), at)?;
+        let is_dotted = self.base(before, place) < address.steps().len();
+        let stays = !is_dotted || self.is_made_around(before, place.slot, &address, at);
+        Ok(Parent { address, stays })
     }
 
-    /// The parent of the address, and whether it is the root or a line that is not at the address, nor below it, mentions it:
-    /// such a line is mostly near before the slot.
+    /// The parent of the address, and whether it is the root, or a line that is not at the address, nor below it, makes it: such a line
+    /// is mostly near before the slot.
     fn parent_left(
         &self,
         before: Before<'_, 'x>,
@@ -132,33 +133,25 @@ impl<'x> Tree<'x> {
         slot: usize,
     ) -> Result<Parent, AllocError> {
         let address = parent_of(self.alloc(), at)?;
-        let stays = address.steps().is_empty()
-            || self.is_mentioned_around(before, slot, &address, at);
+        let stays =
+            address.steps().is_empty() || self.is_made_around(before, slot, &address, at);
         Ok(Parent { address, stays })
     }
 
-    /// Whether a line that is not at the other address, nor below it, mentions the address. The slots before this one are asked
+    /// Whether a line that is not at the other address, nor below it, makes what is at the address. The slots before this one are asked
     /// first, the nearest before the others.
-    fn is_mentioned_around(
+    fn is_made_around(
         &self,
         before: Before<'_, 'x>,
         slot: usize,
         address: &Address,
         other: &Address,
-    ) -> bool {
-        let units = before.units;
+    ) -> bool
+        ensures { TellsMaker address.now other.now before.entry.units.now self.now.slots.items result }
+    {
         let (above, behind) = self.slots.split_at(slot.min(self.slots.len()));
-        for near in above.iter().rev() {
-            if near.is_mentioned(units, address, other) {
-                return true;
-            }
-        }
-        for near in behind {
-            if near.is_mentioned(units, address, other) {
-                return true;
-            }
-        }
-        false
+        is_made_above(above, before.units, address, other)
+            || is_made_in(behind, before.units, address, other)
     }
 
     /// Whether the address is not that of an element, or another element of its array stays.
@@ -172,11 +165,11 @@ impl<'x> Tree<'x> {
             return Ok(true);
         }
         let array = parent_of(self.alloc(), at)?;
-        Ok(self.is_mentioned_around(before, first, &array, at))
+        Ok(self.is_made_around(before, first, &array, at))
     }
 
-    /// Takes out all lines at the address and below, of which the slot has the first or comes before it. Where no other line
-    /// mentions the parent, the first of them that does becomes the parent as an empty table.
+    /// Takes out all lines at the address and below, of which the slot has the first or comes before it. Where no other line makes the
+    /// parent, the first of them that does becomes the parent as an empty table.
     fn remove_lines(
         &mut self,
         before: Before<'_, 'x>,
@@ -218,17 +211,14 @@ impl<'t> Slot<'t> {
         false
     }
 
-    /// Whether a line of it that is not at the other address, nor below it, mentions the address.
-    fn is_mentioned<'a>(&'a self, units: &'a [Unit], address: &Address, other: &Address) -> bool {
-        for index in 0..self.count() {
-            let Some(line) = self.seen(units, index) else {
-                return false;
-            };
-            if line.mentions(address) && !line.is_below(other) {
-                return true;
-            }
+    /// Whether a line of it that is not at the other address, nor below it, makes what is at the address.
+    fn is_made(&self, units: &[Unit], address: &Address, other: &Address) -> bool
+        ensures { SlotTellsMaker address.now other.now units.now self.now result }
+    {
+        match self {
+            Slot::Kept(kept) => kept.seen(units).makes_beside(address, other),
+            Slot::Lines(lines) => is_any_made(lines, address, other),
         }
-        false
     }
 
     /// Takes out its lines at the address and below.
@@ -239,7 +229,8 @@ impl<'t> Slot<'t> {
         at: &Address,
         parent: &mut Parent,
     ) -> Result<(), AllocError>
-        ensures { OnOk result (parent.old.stays ≡ true → LeavesSlot at.now before.entry.units.now self.old self.new) }
+        ensures { let old = parent.old in
+            OnOk result (LeavesSlot texts.entry (read_of before.entry) at.now old.address old.stays self.old self.new) }
     {
         self.open(texts.alloc, before.units)?;
         match self {
@@ -247,6 +238,43 @@ impl<'t> Slot<'t> {
             Slot::Kept(_) => Ok(()),
         }
     }
+}
+
+/// Whether one of the lines that is not at the other address, nor below it, makes what is at the address.
+fn is_any_made(lines: &[Line<'_>], address: &Address, other: &Address) -> bool
+    ensures { result ≡ list_any (λ (l : WorkingLine). makes_apart address.now other.now l.base l.address) lines.now }
+{
+    for line in lines {
+        if line.seen().makes_beside(address, other) {
+            return true;
+        }
+    }
+    false
+}
+
+/// Whether a line of the slots that is not at the other address, nor below it, makes what is at the address. The last slot is asked
+/// first.
+fn is_made_above(slots: &[Slot<'_>], units: &[Unit], address: &Address, other: &Address) -> bool
+    ensures { TellsMaker address.now other.now units.now slots.now result }
+{
+    for place in (0..slots.len()).rev() {
+        if slots[place].is_made(units, address, other) {
+            return true;
+        }
+    }
+    false
+}
+
+/// The same, the first slot first.
+fn is_made_in(slots: &[Slot<'_>], units: &[Unit], address: &Address, other: &Address) -> bool
+    ensures { TellsMaker address.now other.now units.now slots.now result }
+{
+    for slot in slots {
+        if slot.is_made(units, address, other) {
+            return true;
+        }
+    }
+    false
 }
 
 /// Takes out the lines of the slot at the address and below, if there is such a slot.
@@ -258,8 +286,8 @@ fn remove_in<'t>(
     at: &Address,
     parent: &mut Parent,
 ) -> Result<(), AllocError>
-    ensures { let units = before.entry.units.now in
-        OnOk result (parent.old.stays ≡ true → LeavesSlots at.now units slot slots.old.items slots.new.items) }
+    ensures { let old = parent.old in
+        OnOk result (LeavesSlots texts.entry (read_of before.entry) at.now old.address old.stays slot slots.old.items slots.new.items) }
 {
     match slots.get_mut(slot) {
         Some(lines) => lines.remove(texts, before, at, parent),
@@ -275,7 +303,8 @@ fn remove_from<'t>(
     at: &Address,
     parent: &mut Parent,
 ) -> Result<(), AllocError>
-    ensures { OnOk result (parent.old.stays ≡ true → LeavesLines at.now lines.old.items lines.new.items) }
+    ensures { let old = parent.old in let new = parent.new in
+        OnOk result (LeavesLines texts.entry (lines_known known.now) at.now old.address old.stays new.stays lines.old.items lines.new.items) }
 {
     let old = mem::replace(lines, Vec::new(texts.alloc));
     for line in old {
@@ -294,8 +323,9 @@ fn left_of<'t>(
     at: &Address,
     parent: &mut Parent,
 ) -> Result<Option<Line<'t>>, AllocError>
-    ensures parent { OnOk result (parent.old.stays ≡ true → parent.new.stays ≡ true) }
-    ensures left { IfOk result (λ left. parent.old.stays ≡ true → LeavesOf at.now line.entry left) }
+    ensures parent { parent.new.address ≡ parent.old.address }
+    ensures left { let old = parent.old in let new = parent.new in
+        IfOk result (λ left. LeavesLines texts.entry (lines_known known.now) at.now old.address old.stays new.stays (line.entry ∷ []) (lines_of left)) }
 {
     if line.seen().is_below(at) {
         removed(texts, known, line, parent)
@@ -311,10 +341,11 @@ fn removed<'t>(
     line: Line<'t>,
     parent: &mut Parent,
 ) -> Result<Option<Line<'t>>, AllocError>
-    ensures parent { OnOk result (parent.old.stays ≡ true → parent.new.stays ≡ true) }
-    ensures left { IfOk result (λ left. parent.old.stays ≡ true → LeavesBehind line.entry left) }
+    ensures parent { parent.new.address ≡ parent.old.address }
+    ensures left { let old = parent.old in let new = parent.new in
+        IfOk result (λ left. LeavesBehind texts.entry (lines_known known.now) old.address old.stays new.stays line.entry left) }
 {
-    if !parent.stays && line.seen().mentions(&parent.address) {
+    if !parent.stays && line.seen().makes(&parent.address) {
         parent.stays = true;
         let mut line = line;
         line.stand_for(texts, known, &parent.address)?;
@@ -324,27 +355,6 @@ fn removed<'t>(
         return Ok(Some(Line::empty(texts.alloc)?));
     }
     Ok(None)
-}
-
-impl<'t> Line<'t> {
-    /// Makes it stand for the parent: its key's front up to it as an empty table, or as a header.
-    fn stand_for(
-        &mut self,
-        texts: Texts<'t>,
-        known: &[KnownLine<'t>],
-        parent: &Address,
-    ) -> Result<(), AllocError> {
-        let parts = match self.base {
-            Some(base) => parent.steps().len().saturating_sub(base),
-            None => names_in(parent.steps()),
-        };
-        self.open(texts, known)?;
-        if let Some(open) = self.opened() {
-            open.empty(texts, parts)?;
-        }
-        self.address = Some(parent.copy(texts.alloc)?);
-        Ok(())
-    }
 }
 
 /// The address without its last step.

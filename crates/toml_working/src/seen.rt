@@ -6,6 +6,7 @@ ghost use Rattle.toml_working.specs.Headers.{begins_later};
 ghost use Rattle.toml_working.specs.InsertStanding.{is_bare};
 ghost use Rattle.toml_working.specs.LookingUp.{last_pair_from};
 ghost use Rattle.toml_working.specs.Placing.{is_header, pair_at};
+ghost use Rattle.toml_working.specs.RemoveStanding.{makes, makes_apart, parts_to};
 ghost use Rattle.toml_working.specs.RenameStanding.{part_number};
 ghost use Rattle.toml_working.specs.Seeing.{heads, heads_below, is_dotted, is_sought, seen, steps_to};
 ghost use Rattle.toml_working.specs.Standing.{leads_to, lies_below};
@@ -129,25 +130,19 @@ impl Seen<'_> {
         }
     }
 
-    /// Whether its own key mentions the address: a keyval each table that its key passes, and its value; a header each table
-    /// and element that its key passes, and what it stands for.
-    pub(crate) fn mentions(self, at: &Address) -> bool {
-        if !self.is_below(at) {
-            return false;
-        }
-        match self.base {
-            Some(base) => base < at.steps().len(),
-            None => !self.passes_on(at),
-        }
+    /// Whether it makes the table or the array of tables at the address: by its dotted key, or as a header there or below. Of an array
+    /// so does a header below one of its elements; where there is one, that element's own header is there too.
+    pub(crate) fn makes(self, at: &Address) -> bool
+        ensures { result ≡ makes at.now self.entry.base (lent self.entry.address) }
+    {
+        self.is_dotted_in(at) || self.is_header_below(at)
     }
 
-    /// Whether a header's key passes from an array of tables, at the address, on to an element of it.
-    fn passes_on(self, at: &Address) -> bool {
-        let (Some(own), count) = (self.address, at.steps().len()) else {
-            return false;
-        };
-        let is_own = self.is_tables && own.steps().len() == count.saturating_add(1);
-        matches!(own.steps().get(count), Some(Step::Index(_))) && !is_own
+    /// The same, where it is not at the other address, nor below it.
+    pub(crate) fn makes_beside(self, at: &Address, other: &Address) -> bool
+        ensures { result ≡ makes_apart at.now other.now self.entry.base (lent self.entry.address) }
+    {
+        self.makes(at) && !self.is_below(other)
     }
 
     /// Whether it is the header of a later element of the array of tables whose element stands at the address. New elements come
@@ -165,6 +160,16 @@ impl Seen<'_> {
             return false;
         };
         self.is_header() && index > element && is_same_way(array, other)
+    }
+
+    /// How many parts of its key lead to the address.
+    pub(crate) fn parts_to(self, at: &Address) -> usize
+        ensures { result ≡ parts_to at.now self.entry.base }
+    {
+        match self.base {
+            Some(base) => at.steps().len().saturating_sub(base),
+            None => names_in(at.steps()),
+        }
     }
 
     /// Which part of its key stands for the address, if one does.

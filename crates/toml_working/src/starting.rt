@@ -42,7 +42,6 @@ fn kept_of(facts: &[LineFacts], number: usize, unit: &Unit, first: usize) -> Opt
     Some(Kept {
         line: number,
         span: facts.span,
-        is_tables: facts.is_tables,
         is_last: facts.is_last,
         first,
     })

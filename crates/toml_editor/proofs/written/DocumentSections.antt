@@ -23,7 +23,7 @@ use Rattle.toml_editor.proofs.written.OneSection.{AreSectioned, HeadersDiffer, S
 nat_self : (n : ℕ) → (n == n) ≡ true
 nat_self n = let e : (n == n) ≡ true = grind (arith, nat_tests) in e
 
-begins_longer : (q r : Address) → begins q (q ++ r) ≡ true
+pub begins_longer : (q r : Address) → begins q (q ++ r) ≡ true
 begins_longer [] r = refl
 begins_longer (s ∷ q) r = ap (λ b. b && begins q (q ++ r)) (same_step-self s) ∙ begins_longer q r
 

@@ -1,13 +1,13 @@
 -- Examples, computed: an `insert` below a header, and a `remove` there. Each text was written by hand.
-use Rattle.std.proofs.Common.{◌≡◌, ℕ, List, [], ◌∷◌, ◌++◌, refl}
+use Rattle.std.proofs.Common.{◌≡◌, ℕ, List, [], ◌∷◌, ◌++◌, Some, refl}
 use Rattle.toml_scalar.specs.Values.{name_of}
 use Rattle.toml_tree.specs.Bare.{fresh}
-use Rattle.toml_tree.specs.Tree.{BlankLine, TableLine, ArrayTableLine, Line}
+use Rattle.toml_tree.specs.Tree.{BlankLine, KeyValLine, TableLine, ArrayTableLine, Line}
 use Rattle.toml_names.specs.declared.model.address.Step.TheVariants.{Name, Index}
 use Rattle.toml_names.specs.model.Addresses.{Address}
 use Rattle.toml_working.specs.Inserting.{insert_in}
 use Rattle.toml_working.specs.Removing.{remove_lines}
-use Rattle.toml_editor.proofs.written.Examples.{array, digit, document, ended, empty, first, follow, fourth, header, key, keyval, last, last_header, nine, no_tail, plain, spaced_pair, table, text, third}
+use Rattle.toml_editor.proofs.written.Examples.{array, digit, document, dotted, ended, empty, first, follow, fourth, header, key, keyval, last, last_header, nine, no_tail, plain, spaced_pair, table, text, third}
 
 -- `f = 9`
 abbrev put : List ℕ
@@ -86,3 +86,41 @@ followed_header = refl
 removed_below : text (remove_lines (Name (0x74 ∷ []) ∷ Name (0x63 ∷ []) ∷ []) document) ≡ first ++ table ++ array ++ fourth ++ last
 unfolding name_of
 removed_below = refl
+
+-- a line with a dotted key of two parts, and one that is not dotted
+abbrev dotted_line : ℕ → ℕ → Line
+dotted_line one two = ended (keyval (dotted one two) (digit 0x31))
+
+abbrev p : Address
+p = Name (0x61 ∷ []) ∷ Name (0x62 ∷ []) ∷ []
+
+-- another line makes the table: `a.b = 1`, `a.c = 1`, without the first `a.c = 1`
+removed_beside : text (remove_lines p (dotted_line 0x61 0x62 ∷ dotted_line 0x61 0x63 ∷ no_bytes ∷ [])) ≡ text (dotted_line 0x61 0x63 ∷ no_bytes ∷ [])
+unfolding name_of
+removed_beside = refl
+
+-- so does a header below it: `a.b = 1`, `[a.c]`
+removed_above_header : text (remove_lines p (dotted_line 0x61 0x62 ∷ ended (TableLine empty (header (dotted 0x61 0x63)) no_tail) ∷ no_bytes ∷ []))
+    ≡ 0x5B ∷ 0x61 ∷ 0x2E ∷ 0x63 ∷ 0x5D ∷ 0x0A ∷ []
+unfolding name_of
+removed_above_header = refl
+
+-- no line does: `  a . b=1 #c` at the end of a text becomes `  a = {}`
+abbrev lone_line : Line
+lone_line = record {
+  expr = KeyValLine (fresh (0x20 ∷ 0x20 ∷ []))
+      (record {
+        assign = record {
+          key = record { first = fresh (0x61 ∷ []); rest = record { before_dot = fresh (0x20 ∷ []); after_dot = fresh (0x20 ∷ []); part = fresh (0x62 ∷ []) } ∷ [] };
+          before_equals = empty;
+          after_equals = empty;
+        };
+        value = digit 0x31;
+      })
+      (record { ws = fresh (0x20 ∷ []); comment = Some (fresh (0x23 ∷ 0x63 ∷ [])) });
+  newline = empty;
+}
+
+removed_alone : text (remove_lines p (lone_line ∷ [])) ≡ 0x20 ∷ 0x20 ∷ 0x61 ∷ 0x20 ∷ 0x3D ∷ 0x20 ∷ 0x7B ∷ 0x7D ∷ []
+unfolding name_of
+removed_alone = refl

@@ -1,5 +1,5 @@
 -- The working tree after a plain edit stands for the text that the edit writes.
-use Rattle.std.proofs.Common.{◌≡◌, ℕ, Bool, true, List, [], ◌++◌, None, refl, sym, subst, ◌∙◌, subst₂}
+use Rattle.std.proofs.Common.{◌≡◌, ℕ, Bool, true, List, [], ◌∷◌, ◌++◌, None, refl, sym, subst, ◌∙◌, subst₂}
 use Rattle.toml_text.specs.Forms.{IsNewline}
 use Rattle.toml_text.specs.Source.{text_of}
 use Rattle.toml_tree.specs.Bare.{bare_lines}
@@ -7,7 +7,7 @@ use Rattle.toml_tree.specs.Profiles.{IsValueIn}
 use Rattle.toml_tree.specs.Spells.{joined, lines_parts}
 use Rattle.toml_tree.specs.Tree.{Value, Line}
 use Rattle.toml_tree.specs.declared.profile.Profile.{Profile}
-use Rattle.toml_names.specs.model.Addresses.{Address}
+use Rattle.toml_names.specs.model.Addresses.{Address, child}
 use Rattle.toml_names.specs.model.Data.{Kinds}
 use Rattle.toml_edits.specs.After.{IsAfter}
 use Rattle.toml_edits.specs.Edits.{Change, set, remove}
@@ -26,9 +26,10 @@ use Rattle.toml_working.specs.Stands.{KeepsRest, SetsLines, Stands}
 use Rattle.toml_working.specs.Starting.{NoneIsGone}
 use Rattle.toml_editor.specs.Steps.{IsGoodText, IsPlain}
 use Rattle.toml_layout.specs.TreeOutlines.{value_outline}
-use Rattle.toml_working.specs.Written.{AreEdited, HasValue, IsWritten}
+use Rattle.toml_working.specs.Written.{AreEdited, HasLine, HasValue, IsWritten}
 use Rattle.toml_editor.proofs.SourceKept.{source_kept}
-use Rattle.toml_editor.proofs.written.RemoveStanding.{remove_stands}
+use Rattle.toml_editor.proofs.written.RemoveNamed.{line_parts}
+use Rattle.toml_editor.proofs.written.RemovedEither.{remove_stands}
 use Rattle.toml_editor.proofs.written.Steps.{plain_step, step_lines}
 use Rattle.toml_editor.proofs.written.SetStanding.{set_stands}
 use Rattle.toml_editor.proofs.written.StandingBare.{places_do_not_stand}
@@ -88,15 +89,23 @@ set_is_there profile read old new p text kinds at apart v done sets is =
     let made = sets apart (standing lines) at.stands (rules_order lines at.good.good.0) in
     standing_is_value p lines (sym made.1 ∙ is)
 
--- a `remove` of a line whose key is not dotted is made, and so is the text
+-- the root is no value of a line
+pub value_not_root : (p : Address) (lines : List Line) → HasLine lines p → ¬ (p ≡ [])
+value_not_root p lines there none = let (table, name, member) = line_parts p lines there in no_member table name (sym none ∙ member)
+  where
+    no_member : (table : Address) (name : List ℕ) → [] ≡ child table name → ⊥
+    no_member [] name is = cc
+    no_member (s ∷ table) name is = cc
+
+-- a `remove` of the line of a value is made, and so is the text
 pub remove_follows : (profile : Profile) (read : Read) (old new : Tree) (p : Address) (text : List ℕ) (kinds now : Kinds) (at : IsAt profile read old text kinds)
     → IsFault profile (remove p) kinds None → IsAfter profile (remove p) kinds now → IsPlain at.good.tree.lines (remove p)
     → RemovesLines p read old new → Follows profile read (remove p) old new text now
 remove_follows profile read old new p text kinds now at none is_after there removes =
     let lines = at.good.tree.lines in
-    let (rest, made) = removes (standing lines) at.stands (rules_order lines at.good.good.0) there in
+    let (rest, made) = removes (value_not_root p lines there) (standing lines) at.stands (rules_order lines at.good.good.0) there in
     let edited = remove_lines p lines in
     let stands : Stands (text_of new.texts.source) read new.slots.items (standing edited) =
-    subst₂ (λ (s : Texts) ls. Stands (text_of s.source) read new.slots.items ls) (sym rest.texts) (sym (remove_stands p lines)) made in
+    subst₂ (λ (s : Texts) ls. Stands (text_of s.source) read new.slots.items ls) (sym rest.texts) (sym (remove_stands p lines there at.good.good.0)) made in
     follows profile read (remove p) old new text kinds now edited at.newline at.good none is_after (there, refl) stands
     (subst NoneIsGone (sym rest.elements) at.whole) (source_kept old new rest.texts rest.style)

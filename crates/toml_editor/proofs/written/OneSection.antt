@@ -42,7 +42,7 @@ over_append : (front back : List Standing) (q : Address) → section_over q (fro
 over_append [] back q = refl
 over_append (s ∷ front) back q = over_append front back (section_behind q s.base s.address)
 
-sectioned_back : (front back : List Standing) (q : Address) → AreSectioned q (front ++ back) → AreSectioned (section_over q front) back
+pub sectioned_back : (front back : List Standing) (q : Address) → AreSectioned q (front ++ back) → AreSectioned (section_over q front) back
 sectioned_back [] back q are = are
 sectioned_back (s ∷ front) back q are = sectioned_back front back (section_behind q s.base s.address) are.1
 
@@ -98,7 +98,7 @@ among_of test (s ∷ ss) there = by (test s) refl there (λ more. among_of test 
     by false is h more = among_behind (λ x. test x ≡ true) (s ∷ []) ss (more h)
 
 -- where the section is another's, its header was passed
-heads_within : (ss : List Standing) (r q : Address) → section_over r ss ≡ q → (r ≡ q) ⊎ IsAmong (Heads q) ss
+pub heads_within : (ss : List Standing) (r q : Address) → section_over r ss ≡ q → (r ≡ q) ⊎ IsAmong (Heads q) ss
 heads_within [] r q is = inl is
 heads_within (s ∷ ss) r q is = by s.base refl s.address refl (heads_within ss (section_behind r s.base s.address) q is)
   where
@@ -133,7 +133,7 @@ header_within (m ∷ mid) t back none pair = by m.base refl m.address refl none 
 
 -- ---- a line below a header
 
-same_begin : (q r a : Address) → begins q a ≡ true → begins r a ≡ true → length q ≡ length r → q ≡ r
+pub same_begin : (q r a : Address) → begins q a ≡ true → begins r a ≡ true → length q ≡ length r → q ≡ r
 same_begin [] [] a h k long = refl
 same_begin [] (t ∷ r) a h k long = absurd (omega (arith, long))
 same_begin (s ∷ q) [] a h k long = absurd (omega (arith, long))

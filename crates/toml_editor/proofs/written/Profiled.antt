@@ -1,5 +1,5 @@
 -- Edited lines are of the profile of which the lines were, and the new value.
-use Rattle.std.proofs.Common.{ℕ, ◌+◌, ◌==◌, Bool, true, false, cond, inl, inr, List, [], ◌∷◌, ◌++◌, length, sym, subst}
+use Rattle.std.proofs.Common.{ℕ, ◌+◌, ◌-◌, ◌==◌, Bool, true, false, cond, inl, inr, List, [], ◌∷◌, ◌++◌, length, refl, sym, subst}
 use Rattle.toml_tree.specs.Profiles.{HasPair, HasNoLastComma, HasPlainTables, ItemsHavePlainTables, ArePlainPairs, ExprHasPlainTables}
 use Rattle.toml_tree.specs.Spells.{EachIs}
 use Rattle.toml_tree.specs.Tree.{Value, Scalar, Array, Inline, Items, Close, Last, More, Pairs, ClosePairs, LastPair, MorePairs, Expr, BlankLine, KeyValLine, TableLine, ArrayTableLine, Line}
@@ -13,7 +13,10 @@ use Rattle.toml_layout.specs.Spacings.{Spacing}
 use Rattle.toml_working.specs.Manners.{Manner}
 use Rattle.toml_working.specs.Lines.{lines_from}
 use Rattle.toml_editor.specs.RemoveLaws.{RemoveOfProfile}
-use Rattle.toml_working.specs.Removing.{remove_line, left_behind, empty_line}
+use Rattle.toml_working.specs.Removing.{emptied_expr, empty_line, left_of_line, remove_line}
+use Rattle.toml_working.specs.RemoveStanding.{leaves_parent}
+use Rattle.toml_layout.specs.Holders.{parent_of}
+use Rattle.toml_working.specs.Standing.{standing}
 use Rattle.toml_editor.specs.RenameLaws.{RenameOfProfile}
 use Rattle.toml_working.specs.Renaming.{rename_value, rename_items, rename_pairs, rename_expr, rename_line}
 use Rattle.toml_editor.specs.SetLaws.{SetOfProfile}
@@ -99,22 +102,32 @@ insert_of_profile Two q name v manner lines there is good = tt
 
 -- ---- remove
 
-left_plain : (l : Line) → ArePlain (left_behind l)
-left_plain l = by (length l.newline.text == 0)
+emptied_plain : (parts : ℕ) (e : Expr) → ExprHasPlainTables e → ExprHasPlainTables (emptied_expr parts e)
+emptied_plain parts (BlankLine b) is = tt
+emptied_plain parts (KeyValLine ws pair tail) is = (tt, refl)
+emptied_plain parts (TableLine ws header tail) is = tt
+emptied_plain parts (ArrayTableLine ws header tail) is = tt
+
+left_plain : (p : Address) (b : Bool) (n : ℕ) (l : Line) → ExprHasPlainTables l.expr → ArePlain (left_of_line p b n l)
+left_plain p false n l is = (emptied_plain (length (parent_of p) - n) l.expr is, tt)
+left_plain p true n l is = by (length l.newline.text == 0)
   where
     by : (b : Bool) → ArePlain (cond b (empty_line ∷ []) [])
     by true = (tt, tt)
     by false = tt
 
-remove_plain : (p : Address) (ls : List Line) (xs : List Named) (n : ℕ) → ArePlain ls → ArePlain (lines_from (remove_line p) xs n ls)
-remove_plain p [] xs n is = tt
-remove_plain p (l ∷ ls) xs n is =
-    each_append (λ m. ExprHasPlainTables m.expr) (remove_line p xs l) (lines_from (remove_line p) (xs ++ named_by xs n l.expr) (n + 1) ls)
-    (elim (two_ways p xs l) [ inl stays ↦ subst ArePlain (sym stays) (is.0, tt) | inr goes ↦ subst ArePlain (sym goes) (left_plain l) ])
-    (remove_plain p ls (xs ++ named_by xs n l.expr) (n + 1) is.1)
+remove_plain : (p : Address) (b : Bool) (ls : List Line) (xs : List Named) (n : ℕ) → ArePlain ls → ArePlain (lines_from (remove_line p b) xs n ls)
+remove_plain p b [] xs n is = tt
+remove_plain p b (l ∷ ls) xs n is =
+    each_append (λ m. ExprHasPlainTables m.expr) (remove_line p b xs l) (lines_from (remove_line p b) (xs ++ named_by xs n l.expr) (n + 1) ls)
+    (elim (two_ways p b xs l) [
+      | inl stays ↦ subst ArePlain (sym stays) (is.0, tt)
+      | inr goes ↦ subst ArePlain (sym goes) (left_plain p b (length (section xs)) l is.0)
+    ])
+    (remove_plain p b ls (xs ++ named_by xs n l.expr) (n + 1) is.1)
 
 pub remove_of_profile : RemoveOfProfile
-remove_of_profile One p lines is = remove_plain p lines (root ∷ []) 0 is
+remove_of_profile One p lines is = remove_plain p (leaves_parent p (standing lines)) lines (root ∷ []) 0 is
 remove_of_profile Two p lines is = tt
 
 -- ---- rename

@@ -1,5 +1,5 @@
 -- The value of a key at the root is that of a line whose key is not dotted.
-use Rattle.std.proofs.Common.{◌≡◌, ℕ, ◌+◌, ◌==◌, ◌&&◌, ◌⊎◌, inl, inr, Bool, true, false, List, [], ◌∷◌, ◌++◌, length, refl, sym, ap₂, ◌∙◌, subst}
+use Rattle.std.proofs.Common.{◌≡◌, ℕ, ◌+◌, ◌-◌, ◌&&◌, ◌⊎◌, inl, inr, Bool, true, false, ◌||◌, Option, Some, None, List, [], ◌∷◌, ◌++◌, length, refl, sym, ap, ap₂, ◌∙◌, subst}
 use Rattle.std.specs.List.{list_any}
 use Rattle.toml_tree.specs.Tree.{Value, Expr, BlankLine, KeyValLine, TableLine, ArrayTableLine, Line}
 use Rattle.toml_names.specs.declared.model.address.Step.TheVariants.{Name}
@@ -8,8 +8,11 @@ use Rattle.toml_names.specs.model.Addresses.{Address, IsAbove, same_address, chi
 use Rattle.toml_names.specs.mentions.Keys.{Key, key_names, part_name, rest_names}
 use Rattle.toml_names.specs.mentions.Mentions.{Named, named, named_by, named_from, root, fronts, value_named, inside, section, followed, entered, ends_table, ends_tables}
 use Rattle.toml_names.proofs.Proved.{inside_is_below}
-use Rattle.toml_working.specs.RemoveStanding.{is_undotted_pair}
-use Rattle.toml_working.specs.Standing.{line_stands, standing_from}
+use Rattle.toml_working.specs.RemoveStanding.{is_pair, is_undotted_at, is_undotted_pair, is_value_at}
+use Rattle.std.specs.Bool.{nat_lt}
+use Rattle.std.specs.Prelude.{not}
+use Rattle.std.proofs.lemmas.Bool.{and_parts}
+use Rattle.toml_working.specs.Standing.{Standing, line_stands, standing, standing_from}
 use Rattle.toml_editor.specs.StandingLaws.{RootPairIsLine}
 use Rattle.toml_editor.proofs.Each.{each_append, each_weaker}
 use Rattle.toml_editor.proofs.written.Clear.{same_is, self}
@@ -75,13 +78,13 @@ module _ (name : List ℕ) where
           to : Address
           to = below (section xs) (key_names pair.assign.key)
 
-          undotted : is_undotted_pair p (line_stands xs l) ≡ (same_address to p && (1 == length (section xs) + 1))
+          undotted : is_undotted_pair p (line_stands xs l) ≡ (same_address to p && not (nat_lt (length (section xs)) 0))
           undotted = rw is refl
 
           at_test : (b : Bool) → same_address to p ≡ b → is_undotted_pair p (line_stands xs l) ≡ true
           at_test true same =
               undotted
-              ∙ ap₂ (λ b (s : Address). b && (1 == length s + 1)) same (in_root (section xs) (part_name pair.assign.key.first) (rest_names pair.assign.key.rest) (same_is to p same))
+              ∙ ap₂ (λ b (s : Address). b && not (nat_lt (length s) 0)) same (in_root (section xs) (part_name pair.assign.key.first) (rest_names pair.assign.key.rest) (same_is to p same))
           at_test false other =
               absurd (none_of (named_by xs n (KeyValLine ws pair tail))
               (each_append _ (fronts n (section xs) (key_names pair.assign.key)) (value_named n Valued to pair.value ∷ inside n to pair.value) (fronts_none n (key_names pair.assign.key) (section xs))
@@ -108,5 +111,20 @@ module _ (name : List ℕ) where
     | inl (inr none) ↦ absurd none
   ]
 
+-- what has a key that is not dotted is a value of a line
+some_pair : (p : Address) (ss : List Standing) → list_any (is_undotted_pair p) ss ≡ true → list_any (is_pair p) ss ≡ true
+some_pair p [] there = there
+some_pair p (s ∷ ss) there = by (is_undotted_pair p s) refl there (some_pair p ss)
+  where
+    one : (base : Option ℕ) (own : Option Address) → is_undotted_at p base own ≡ true → is_value_at p base own ≡ true
+    one None own is = cc
+    one (Some n) own is = (and_parts (is_value_at p (Some n) own) (not (nat_lt n (length p - 1))) is).0
+
+    by : (b : Bool) → is_undotted_pair p s ≡ b → (b || list_any (is_undotted_pair p) ss) ≡ true
+        → (list_any (is_undotted_pair p) ss ≡ true → list_any (is_pair p) ss ≡ true) → (is_pair p s || list_any (is_pair p) ss) ≡ true
+    by true is h more = ap (λ b. b || list_any (is_pair p) ss) (one s.base s.address is)
+    by false is h more = or_right (is_pair p s) (list_any (is_pair p) ss) (more h)
+
 pub root_pairs : RootPairIsLine
-root_pairs name lines there = root_pair_is_line name lines (has_of_any _ (named lines) there)
+root_pairs name lines there =
+    some_pair (Name name ∷ []) (standing lines) (root_pair_is_line name lines (has_of_any _ (named lines) there))

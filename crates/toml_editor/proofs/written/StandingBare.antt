@@ -99,7 +99,7 @@ line_bare xs l =
     ap₂ (λ (a : Option Address) (b : Option ℕ). record { address = a; base = b; outline = line_outline (bare_line l) }) (own_bare xs l.expr) (base_bare xs l.expr)
     ∙ ap (λ o. record { address = own_address xs l.expr; base = line_base xs l.expr; outline = o }) (line_expr_bare l.expr l.newline)
 
-lines_bare : (ls : List Line) (xs : List Named) (n : ℕ) → standing_from xs n (bare_lines ls) ≡ standing_from xs n ls
+pub lines_bare : (ls : List Line) (xs : List Named) (n : ℕ) → standing_from xs n (bare_lines ls) ≡ standing_from xs n ls
 lines_bare [] xs n = refl
 lines_bare (l ∷ ls) xs n =
     ap₂ (λ s t. s ∷ t) (line_bare xs l)

@@ -26,7 +26,7 @@ use Rattle.toml_editor.proofs.written.SetKept.{values_at}
 use Rattle.toml_editor.proofs.written.SetNamed.{end_not_above, one_line, root_apart}
 
 -- an address that begins another is that one, or above it
-begins_is : (a b : Address) → begins a b ≡ true → (a ≡ b) ⊎ IsAbove a b
+pub begins_is : (a b : Address) → begins a b ≡ true → (a ≡ b) ⊎ IsAbove a b
 begins_is [] [] is = inl refl
 begins_is [] (t ∷ b) is = inr (t, b, refl)
 begins_is (s ∷ a) [] is = absurd (true≢false (sym is))

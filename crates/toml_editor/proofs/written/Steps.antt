@@ -34,7 +34,8 @@ use Rattle.toml_editor.proofs.written.InsertFormed.{insert_forms}
 use Rattle.toml_editor.proofs.written.InsertKept.{insert_rules, insert_short, insert_data}
 use Rattle.toml_editor.proofs.written.Members.{same_member}
 use Rattle.toml_editor.proofs.written.Profiled.{set_of_profile, insert_of_profile, remove_of_profile, rename_of_profile}
-use Rattle.toml_editor.proofs.written.RemoveKept.{remove_forms, remove_good, remove_data}
+use Rattle.toml_editor.proofs.written.RemoveKept.{remove_forms}
+use Rattle.toml_editor.proofs.written.RemovedEither.{remove_data, remove_good}
 use Rattle.toml_editor.proofs.written.RenameFormed.{rename_forms}
 use Rattle.toml_editor.proofs.written.RenameKept.{rename_good, rename_data}
 use Rattle.toml_editor.proofs.written.SetFormed.{set_forms}

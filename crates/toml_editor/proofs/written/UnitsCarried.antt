@@ -21,11 +21,10 @@ use Rattle.toml_names.specs.mentions.Rules.{KeepsRules}
 use Rattle.toml_names.proofs.Proved.{lines_have_data, places_are_not_named}
 use Rattle.toml_units.proofs.Proved.{units_are_named}
 use Rattle.toml_working.specs.Removing.{remove_lines}
-use Rattle.toml_editor.proofs.written.RemoveKept.{remove_forms, remove_good, left_clear}
-use Rattle.toml_editor.proofs.written.RemoveNamed.{line_parts}
+use Rattle.toml_editor.proofs.written.RemoveKept.{remove_forms}
+use Rattle.toml_editor.proofs.written.RemovedEither.{left_clear, remove_good, remove_way}
 use Rattle.toml_editor.proofs.written.Pairwise.{has_of_any, from_has}
 use Rattle.toml_editor.proofs.written.Way.{Seen, seen}
-use Rattle.toml_editor.proofs.written.WayTaken.{remove_way}
 use Rattle.toml_edits.specs.After.{IsAfter}
 use Rattle.toml_edits.specs.Faults.{IsFault}
 use Rattle.toml_text.specs.Forms.{IsNewline}
@@ -38,7 +37,7 @@ use Rattle.toml_editor.proofs.written.InsertFormed.{insert_forms}
 use Rattle.toml_editor.proofs.written.RenameFormed.{rename_forms}
 use Rattle.toml_editor.proofs.written.WayComments.{comments}
 use Rattle.toml_working.specs.Setting.{set_lines}
-use Rattle.toml_working.specs.Written.{HasUndottedLine, HasSection, HasValue, IsWritten}
+use Rattle.toml_working.specs.Written.{HasLine, HasSection, HasValue, IsWritten}
 use Rattle.toml_editor.proofs.written.SetKept.{set_short}
 use Rattle.toml_editor.proofs.written.SetFormed.{set_forms}
 use Rattle.toml_editor.proofs.written.WaySet.{set_way}
@@ -172,8 +171,7 @@ remove_goes : (p : Address) → HaveWays (remove p)
 remove_goes p profile manner before after old now newline good none is_after (d, spells, edited, (there, made), text) =
     let same : d ≡ good.tree = one_tree d good.tree before spells.0 good.spelled.0 in
     let lines = good.tree.lines in
-    let has_line : HasUndottedLine lines p = subst (λ (x : Doc). HasUndottedLine x.lines p) same there in
-    let (table, name, at) = line_parts p lines has_line in
+    let has_line : HasLine lines p = subst (λ (x : Doc). HasLine x.lines p) same there in
     let lines_are : edited ≡ remove_lines p lines = made ∙ ap (λ (x : Doc). remove_lines p x.lines) same in
     let forms = remove_forms p lines good.spelled.0.lines.forms in
     let far = address_clear p (remove_lines p lines) forms (remove_good p lines has_line good.good).0 (left_clear p lines has_line good.good.0) in
@@ -185,9 +183,7 @@ remove_goes p profile manner before after old now newline good none is_after (d,
       text =
           text ∙ ap (λ (x : Doc). x.mark.text ++ joined (lines_parts edited)) same
           ∙ ap (λ ls. good.tree.mark.text ++ joined (lines_parts ls)) lines_are;
-      way = subst (λ q. HasUndottedLine lines q → EachIs (λ (u : TextUnit). (a : Address) → u.address ≡ Some a → IsClear q a) (units (remove_lines q lines))
-          → HasWay (remove q ∷ []) ([] ∷ []) lines (remove_lines q lines)) (sym at)
-          (λ here clear. remove_way table name lines good.spelled.0.lines.forms here good.good.0 clear) has_line far;
+      way = remove_way p lines good.spelled.0.lines.forms has_line good.good.0 far;
     }
 
 pub plain_goes : (c : Change) → HaveWays c

@@ -1,26 +1,26 @@
 -- The units after the `remove` of a line.
-use Rattle.std.proofs.Common.{◌≡◌, ℕ, ◌+◌, ◌<◌, ◌==◌, true, false, cond, Option, List, [], ◌∷◌, ◌++◌, length, length-append, refl, sym, ap, ap₂, ◌∙◌, subst, append_assoc, zero, suc, arith}
+use Rattle.std.proofs.Common.{◌≡◌, ℕ, map, ◌+◌, ◌<◌, ◌==◌, true, false, cond, Option, List, [], ◌∷◌, ◌++◌, length, length-append, refl, sym, ap, ap₂, ◌∙◌, subst, append_assoc, zero, suc, arith}
 use Rattle.toml_tree.specs.Spells.{AreLines}
 use Rattle.toml_tree.specs.Tree.{Piece, Value, Line}
 use Rattle.toml_names.specs.declared.model.address.Step.TheVariants.{Name}
-use Rattle.toml_names.specs.model.Addresses.{Address, child}
+use Rattle.toml_names.specs.model.Addresses.{Address, below}
+use Rattle.toml_names.specs.mentions.Keys.{Key}
 use Rattle.toml_names.specs.mentions.Alike.{AreAlike}
-use Rattle.toml_names.specs.mentions.Mentions.{Named, named, named_by}
+use Rattle.toml_names.specs.mentions.Mentions.{Named, named, named_by, section}
 use Rattle.toml_units.specs.Units.{TextUnit, line_units, units_from, units}
-use Rattle.toml_editor.specs.Blocks.{value_block}
 use Rattle.toml_working.specs.Lines.{lines_from}
-use Rattle.toml_working.specs.Removing.{remove_line, left_behind, empty_line, remove_lines}
-use Rattle.toml_editor.specs.UnitBlocks.{IsBlockTaken, pair_line_units, left_of, RemoveUnits}
+use Rattle.toml_working.specs.Removing.{remove_line, left_behind, empty_line}
+use Rattle.toml_editor.specs.UnitBlocks.{IsBlockTaken, pair_line_units, left_of}
 use Rattle.std.specs.Prelude.{slice_get}
 use Rattle.toml_names.specs.mentions.Rules.{KeepsRules}
-use Rattle.toml_working.specs.Written.{HasUndottedLine}
+use Rattle.toml_working.specs.Written.{HasLine}
 use Rattle.toml_editor.proofs.written.WayZip.{lines_in}
 use Rattle.toml_editor.proofs.written.WayFits.{newlines}
 use Rattle.toml_editor.proofs.written.WayBlock.{lines_append}
 use Rattle.toml_editor.proofs.written.Alike.{alike_sym, alike_trans}
 use Rattle.toml_editor.proofs.written.Formed.{newline_some}
 use Rattle.toml_editor.proofs.written.Plain.{next_alike}
-use Rattle.toml_editor.proofs.written.RemoveNamed.{Claim, BehindOne, AtOne, by_document, line_parts}
+use Rattle.toml_editor.proofs.written.RemoveNamed.{Claim, BehindOne, AtOne, by_document, line_block, taken_lines}
 use Rattle.toml_editor.proofs.written.UnitsAlike.{units_alike}
 use Rattle.toml_editor.proofs.written.UnitsPut.{lines_first, line_lines}
 
@@ -39,19 +39,24 @@ later : (l : Line) (ls : List Line) → AreEnded (l ∷ ls) → AreEnded ls
 later l [] is = tt
 later l (m ∷ ls) is = is.1
 
-module _ (table : Address) (name : List ℕ) where
-  abbrev p : Address
-  p = child table name
+module _ (p : Address) where
+  -- a key has a part
+  deeper : (s : Address) (key : Key) → below s key ≡ p → ¬ (key ≡ []) → length s < length p
+  deeper s [] at some = absurd (some refl)
+  deeper s (n ∷ ns) at some = let e : length (s ++ Name n ∷ map Name ns) ≡ length s + length (Name n ∷ map Name ns) = length-append s (Name n ∷ map Name ns) in
+      let f = ap length at in omega (arith, e, f)
 
   abbrev gone : List Named → Line → List Line
-  gone = remove_line p
+  gone = remove_line p true
 
   -- the units of the line are taken out, and the newlines of the other lines stay
   pub record AreTaken (old new : List TextUnit) (before after : List (List ℕ)) : Type 0 where
     pub piece : Piece
+    pub base : ℕ
+    pub low : base < length p
     pub value : Value
     pub comment : Option Piece
-    pub taken : IsBlockTaken old (pair_line_units piece p (length table) value comment) new
+    pub taken : IsBlockTaken old (pair_line_units piece p base value comment) new
     pub front_ends : (a : ℕ) → a < lines_in taken.front → slice_get before a ≡ slice_get after a
     pub back_ends : (a : ℕ) → a < lines_in taken.back → slice_get before (lines_in taken.front + suc a) ≡ slice_get after (lines_in taken.front + a)
 
@@ -61,12 +66,14 @@ module _ (table : Address) (name : List ℕ) where
       let all : lines_in (us ++ taken.front) ≡ suc (lines_in taken.front) = lines_append us taken.front ∙ ap (λ n. n + lines_in taken.front) one ∙ (let e : 1 + lines_in taken.front ≡ suc (lines_in taken.front) = omega arith in e) in
       record {
         piece = h.piece;
+        base = h.base;
+        low = h.low;
         value = h.value;
         comment = h.comment;
         taken = record {
           front = us ++ taken.front;
           back = taken.back;
-          before = ap (λ l. us ++ l) taken.before ∙ sym (append_assoc us taken.front (pair_line_units h.piece p (length table) h.value h.comment ++ taken.back));
+          before = ap (λ l. us ++ l) taken.before ∙ sym (append_assoc us taken.front (pair_line_units h.piece p h.base h.value h.comment ++ taken.back));
           after = ap (λ l. us ++ l) taken.after ∙ sym (append_assoc us taken.front (left_of taken.back ++ taken.back));
           next = taken.next;
         };
@@ -91,25 +98,27 @@ module _ (table : Address) (name : List ℕ) where
   left_units xs n k l (m ∷ ms) is = ap (λ b. units_from xs n (cond b (empty_line ∷ []) [] ++ m ∷ ms)) is.0
 
   -- of lines that end as those of a text do
-  abbrev Taken : Claim table name
+  abbrev Taken : Claim p true
   Taken xs ys n ls = AreEnded ls → AreTaken (units_from xs n ls) (units_from xs n (lines_from gone xs n ls)) (newlines ls) (newlines (lines_from gone xs n ls))
 
-  behind_one : BehindOne table name Taken
+  behind_one : BehindOne p true Taken
   behind_one xs ys n l ls alike stays more is =
       let kept = lines_from gone (xs ++ named_by xs n l.expr) (n + 1) ls in
       subst (λ r. AreTaken (units_from xs n (l ∷ ls)) (units_from xs n (r ++ kept)) (newlines (l ∷ ls)) (newlines (r ++ kept))) (sym stays.0)
       (taken_behind (line_units xs l.expr) (units_from (xs ++ named_by xs n l.expr) (n + 1) ls) (units_from (xs ++ named_by xs n l.expr) (n + 1) kept) (newlines ls) (newlines kept) l.newline.text (line_lines xs l.expr) (more (later l ls is)))
 
-  at_one : AtOne table name Taken
+  at_one : AtOne p true Taken
   at_one xs ys n l ls alike goes same is =
       let behind_it : AreAlike xs (xs ++ named_by xs n l.expr) =
-      alike_trans xs (ys ++ value_block p goes.value) (xs ++ named_by xs n l.expr)
-      (alike_trans xs ys (ys ++ value_block p goes.value) alike (goes.alike ys alike))
+      alike_trans xs (ys ++ line_block p (section xs) goes.key goes.value) (xs ++ named_by xs n l.expr)
+      (alike_trans xs ys (ys ++ line_block p (section xs) goes.key goes.value) alike (goes.alike ys alike))
       (subst (λ b. AreAlike (ys ++ b) (xs ++ named_by xs n l.expr)) (goes.names ys alike) (alike_sym (xs ++ named_by xs n l.expr) (ys ++ named_by ys 0 l.expr) (next_alike xs ys n l.expr alike))) in
       let us = units_from (xs ++ named_by xs n l.expr) (n + 1) ls in
       let again : units_from xs n ls ≡ us = units_alike ls xs (xs ++ named_by xs n l.expr) n (n + 1) behind_it in
       record {
         piece = goes.units.0;
+        base = length (section xs);
+        low = deeper (section xs) goes.key goes.at goes.some;
         value = goes.value;
         comment = goes.units.1;
         taken = record {
@@ -126,18 +135,7 @@ module _ (table : Address) (name : List ℕ) where
             ∙ ap₂ (λ r k. slice_get (newlines r) k) (sym (ap₂ (λ x y. x ++ y) goes.gone same)) (let e : a ≡ 0 + a = omega arith in e);
       }
 
-  pub lines_taken : (lines : List Line) → AreLines lines → HasUndottedLine lines p → KeepsRules (named lines)
-      → AreTaken (units lines) (units (remove_lines p lines)) (newlines lines) (newlines (remove_lines p lines))
-  lines_taken lines is there keeps = by_document table name Taken behind_one at_one lines there keeps (ended lines is)
-
-pub remove_units : RemoveUnits
-remove_units p lines is there keeps =
-    let (table, name, at) = line_parts p lines there in
-    let h = lines_taken table name lines is (subst (HasUndottedLine lines) at there) keeps in (
-      h.piece,
-      length table,
-      h.value,
-      h.comment,
-      ap length at ∙ length-append table (Name name ∷ []),
-      subst (λ q. IsBlockTaken (units lines) (pair_line_units h.piece q (length table) h.value h.comment) (units (remove_lines q lines))) (sym at) h.taken,
-    )
+  pub lines_taken : (lines : List Line) → AreLines lines → HasLine lines p → KeepsRules (named lines)
+      → AreTaken (units lines) (units (taken_lines p lines)) (newlines lines) (newlines (taken_lines p lines))
+  lines_taken lines is there keeps =
+      by_document p true Taken behind_one at_one lines there keeps (ended lines is)

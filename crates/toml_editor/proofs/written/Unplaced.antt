@@ -1,6 +1,6 @@
 -- An edit of a tree without places is the edit, without its places.
-use Rattle.std.proofs.Common.{◌≡◌, ℕ, ◌+◌, ◌==◌, Bool, true, false, ◌&&◌, not, cond, Option, Some, None, List, [], ◌∷◌, ◌++◌, map, length, refl, sym, ap, ap₂, ◌∙◌}
-use Rattle.std.proofs.lemmas.List.{map-append}
+use Rattle.std.proofs.Common.{◌≡◌, ℕ, ◌+◌, ◌-◌, ◌==◌, Bool, true, false, ◌&&◌, not, cond, Option, Some, None, List, [], ◌∷◌, ◌++◌, map, length, refl, sym, ap, ap₂, ◌∙◌}
+use Rattle.std.proofs.lemmas.List.{map-append, take-map}
 use Rattle.std.specs.Prelude.{is_some}
 use Rattle.toml_scalar.specs.Spelling.{spelled}
 use Rattle.toml_tree.specs.Tree.{Piece, Dotted, Key, Assign, Value, Scalar, Array, Inline, Items, Close, Last, More, Pairs, ClosePairs, LastPair, MorePairs, Header, Expr, BlankLine, KeyValLine, TableLine, ArrayTableLine, Line}
@@ -14,10 +14,14 @@ use Rattle.toml_working.specs.Inserting.{comments_end, goes_below, has_comment, 
 use Rattle.toml_working.specs.Manners.{Manner}
 use Rattle.toml_layout.specs.Spacings.{laid_out, plain_spacing}
 use Rattle.toml_working.specs.Lines.{array_of, inline_of, lines_from}
-use Rattle.toml_tree.specs.Bare.{fresh, bare, bare_blank, bare_comment, bare_dotted, bare_key, bare_assign, bare_gap, bare_value, bare_items, bare_pairs, bare_header, bare_expr, bare_line}
+use Rattle.toml_tree.specs.Bare.{bare_lines, fresh, bare, bare_blank, bare_comment, bare_dotted, bare_key, bare_assign, bare_gap, bare_value, bare_items, bare_pairs, bare_header, bare_expr, bare_line}
 use Rattle.toml_tree.proofs.Proved.{bare_items_text, bare_pairs_text}
 use Rattle.toml_editor.specs.Bares.{SetBares, InsertBares, RenameBares, RemoveBares}
-use Rattle.toml_working.specs.Removing.{remove_line, left_behind, empty_line}
+use Rattle.toml_working.specs.Removing.{emptied_expr, empty_line, empty_table, left_of_line, lines_left, no_blank, remove_line}
+use Rattle.toml_working.specs.RemoveStanding.{leaves_parent}
+use Rattle.toml_layout.specs.Holders.{parent_of}
+use Rattle.toml_working.specs.Standing.{standing}
+use Rattle.toml_editor.proofs.written.StandingBare.{lines_bare}
 use Rattle.toml_working.specs.Renaming.{rename_part, rename_rest, rename_key, rename_assign, rename_value, rename_items, rename_pairs, rename_header, rename_expr, rename_line}
 use Rattle.toml_working.specs.Setting.{set_at, set_within, set_items, set_pairs, set_expr, set_line}
 
@@ -242,39 +246,58 @@ rename_bares p to lines = from_bared (rename_line p to) (rename_line p to) (rena
 
 -- ---- remove
 
-left_bared : (l : Line) → map bare_line (left_behind l) ≡ left_behind (bare_line l)
-left_bared l = by (length l.newline.text == 0)
+left_bared : (p : Address) (b : Bool) (n : ℕ) (l : Line) → map bare_line (left_of_line p b n l) ≡ left_of_line p b n (bare_line l)
+left_bared p false n l = ap (λ (e : Expr). record { expr = e; newline = bare l.newline } ∷ []) (emptied_bared (length (parent_of p) - n) l.expr)
+  where
+    emptied_bared : (parts : ℕ) (e : Expr) → bare_expr (emptied_expr parts e) ≡ emptied_expr parts (bare_expr e)
+    emptied_bared parts (BlankLine b) = refl
+    emptied_bared parts (KeyValLine ws pair tail) =
+        ap (λ ds. KeyValLine (bare ws) (record {
+          assign = record { key = record { first = bare pair.assign.key.first; rest = ds }; before_equals = fresh (0x20 ∷ []); after_equals = fresh (0x20 ∷ []) };
+          value = empty_table;
+        }) no_blank) (sym (take-map bare_dotted (parts - 1) pair.assign.key.rest))
+    emptied_bared parts (TableLine ws header tail) = refl
+    emptied_bared parts (ArrayTableLine ws header tail) = refl
+left_bared p true n l = by (length l.newline.text == 0)
   where
     by : (b : Bool) → map bare_line (cond b (empty_line ∷ []) []) ≡ cond b (empty_line ∷ []) []
     by true = refl
     by false = refl
 
-remove_line_bared : (p : Address) (xs : List Named) (l : Line) → map bare_line (remove_line p xs l) ≡ remove_line p xs (bare_line l)
-remove_line_bared p xs l = by l.expr
+remove_line_bared : (p : Address) (b : Bool) (xs : List Named) (l : Line) → map bare_line (remove_line p b xs l) ≡ remove_line p b xs (bare_line l)
+remove_line_bared p b xs l = by l.expr
   where
+    n : ℕ
+    n = length (section xs)
+
     by : (e : Expr) → ◌≡◌ {A = List Line}
         (map bare_line (elim e [
           | BlankLine b ↦ l ∷ []
-          | KeyValLine ws pair tail ↦ cond (same_address (below (section xs) (key_names pair.assign.key)) p) (left_behind l) (l ∷ [])
+          | KeyValLine ws pair tail ↦ cond (same_address (below (section xs) (key_names pair.assign.key)) p) (left_of_line p b n l) (l ∷ [])
           | TableLine ws header tail ↦ l ∷ []
           | ArrayTableLine ws header tail ↦ l ∷ []
         ]))
         (elim (bare_expr e) [
           | BlankLine b ↦ bare_line l ∷ []
-          | KeyValLine ws pair tail ↦ cond (same_address (below (section xs) (key_names pair.assign.key)) p) (left_behind (bare_line l)) (bare_line l ∷ [])
+          | KeyValLine ws pair tail ↦ cond (same_address (below (section xs) (key_names pair.assign.key)) p) (left_of_line p b n (bare_line l)) (bare_line l ∷ [])
           | TableLine ws header tail ↦ bare_line l ∷ []
           | ArrayTableLine ws header tail ↦ bare_line l ∷ []
         ])
-    by (BlankLine b) = refl
-    by (KeyValLine ws k b) =
+    by (BlankLine _) = refl
+    by (KeyValLine ws k _) =
         at_test (same_address (below (section xs) (key_names k.assign.key)) p)
-        ∙ ap (λ ks. cond (same_address (below (section xs) ks) p) (left_behind (bare_line l)) (bare_line l ∷ [])) (sym (key_places_are_not_named k.assign.key))
+        ∙ ap (λ ks. cond (same_address (below (section xs) ks) p) (left_of_line p b n (bare_line l)) (bare_line l ∷ [])) (sym (key_places_are_not_named k.assign.key))
       where
-        at_test : (t : Bool) → map bare_line (cond t (left_behind l) (l ∷ [])) ≡ cond t (left_behind (bare_line l)) (bare_line l ∷ [])
-        at_test true = left_bared l
+        at_test : (t : Bool) → map bare_line (cond t (left_of_line p b n l) (l ∷ [])) ≡ cond t (left_of_line p b n (bare_line l)) (bare_line l ∷ [])
+        at_test true = left_bared p b n l
         at_test false = refl
-    by (TableLine ws h b) = refl
-    by (ArrayTableLine ws h b) = refl
+    by (TableLine ws h _) = refl
+    by (ArrayTableLine ws h _) = refl
+
+left_lines_bared : (p : Address) (b : Bool) (lines : List Line) → bare_lines (lines_left p b lines) ≡ lines_left p b (bare_lines lines)
+left_lines_bared p b lines = from_bared (remove_line p b) (remove_line p b) (remove_line_bared p b) lines (root ∷ []) 0
 
 pub remove_bares : RemoveBares
-remove_bares p lines = from_bared (remove_line p) (remove_line p) (remove_line_bared p) lines (root ∷ []) 0
+remove_bares p lines =
+    left_lines_bared p (leaves_parent p (standing lines)) lines
+    ∙ ap (λ ss. lines_left p (leaves_parent p ss) (bare_lines lines)) (sym (lines_bare lines (root ∷ []) 0))

@@ -25,9 +25,9 @@ use Rattle.toml_checker.specs.Plain.{Site, site, next_line, stands, is_named, is
 use Rattle.toml_edits.specs.Sides.{side}
 use Rattle.toml_edits.proofs.Proved.{parted_at_last, sides_are_right}
 use Rattle.toml_editor.specs.ChangedUnits.{is_inner, LiesInValue}
-use Rattle.toml_working.specs.Removing.{remove_lines}
+use Rattle.toml_editor.proofs.written.RemoveNamed.{taken_lines}
 use Rattle.toml_editor.specs.UnitBlocks.{pair_line_units, left_of, BeginWithLine}
-use Rattle.toml_working.specs.Written.{HasUndottedLine}
+use Rattle.toml_working.specs.Written.{HasLine}
 use Rattle.toml_editor.proofs.Each.{each_front, each_back}
 use Rattle.toml_editor.proofs.written.Members.{above_member}
 use Rattle.toml_editor.proofs.written.RemoveKept.{removed_below}
@@ -55,14 +55,14 @@ module _ (table : Address) (name : List ℕ) (before after : List (List ℕ)) wh
   abbrev Fit : Option Site → ℕ → ℕ → List Step → Type 0
   Fit = Fits (c ∷ []) ([] ∷ []) before after
 
-  abbrev IsHome : Option Site → Type 0
+  abbrev pub IsHome : Option Site → Type 0
   IsHome line = home_stands (c ∷ []) line ≡ true
 
   -- a unit that is not at the name or below it
   abbrev pub IsFar : TextUnit → Type 0
   IsFar u = (a : Address) → u.address ≡ Some a → IsClear p a
 
-  owed : (a : Address) → IsClear p a → IsNear p a → IsOwed (c ∷ []) a
+  pub owed : (a : Address) → IsClear p a → IsNear p a → IsOwed (c ∷ []) a
   owed a clear (inl ([], is)) = absurd (clear.apart (sym (append-nil p) ∙ sym is))
   owed a clear (inl (s ∷ rest, is)) = absurd (clear.not_above (s, rest, is))
   owed a clear (inr above) =
@@ -128,7 +128,7 @@ module _ (table : Address) (name : List ℕ) (before after : List (List ℕ)) wh
     );
   }
 
-  same_fits : (us : List TextUnit) → EachIs IsFar us → (line : Option Site) (a b : ℕ) → IsHome line ⊎ BeginWithLine us → ((x : ℕ) → x < lines_in us → SameNewline (c ∷ []) ([] ∷ []) before after (a + x) (b + x)) → Fit line a b (same_way us)
+  pub same_fits : (us : List TextUnit) → EachIs IsFar us → (line : Option Site) (a b : ℕ) → IsHome line ⊎ BeginWithLine us → ((x : ℕ) → x < lines_in us → SameNewline (c ∷ []) ([] ∷ []) before after (a + x) (b + x)) → Fit line a b (same_way us)
   same_fits [] far line a b home same = tt
   same_fits (u ∷ us) far line a b home same = (
     matches line a b u far.0 home
@@ -155,8 +155,9 @@ module _ (table : Address) (name : List ℕ) (before after : List (List ℕ)) wh
 
   -- ---- the line that goes
 
-  abbrev Gone : Site
-  Gone = record { kind = kinds.Line; address = Some p; base = Some (length table) }
+  -- to the table in which it stood led so many steps
+  abbrev pub Gone : ℕ → Site
+  Gone own = record { kind = kinds.Line; address = Some p; base = Some own }
 
   at_it : side p p ≡ sides.At
   at_it = (sides_are_right p p).at.1 refl
@@ -164,23 +165,23 @@ module _ (table : Address) (name : List ℕ) (before after : List (List ℕ)) wh
   and_left : {a : Bool} (b : Bool) → a ≡ false → (a && b) ≡ false
   and_left b is = ap (λ x. x && b) is
 
-  home_gone : home_stands (c ∷ []) (Some Gone) ≡ false
-  home_gone = ap (λ s. not (is_named parts.Home c (Some (length table)) s) && true) at_it
+  home_gone : (own : ℕ) → home_stands (c ∷ []) (Some (Gone own)) ≡ false
+  home_gone own = ap (λ s. not (is_named parts.Home c (Some own) s) && true) at_it
 
-  inner_lost : (us : List TextUnit) → EachIs (LiesInValue p) us → (a b : ℕ) → Fit (Some Gone) a b (map old us)
-  inner_lost [] lies a b = tt
-  inner_lost (u ∷ us) lies a b =
-      by u.kind u.address u.base lies.0.0 lies.0.1 (λ x. inner_lost us lies.1 x b)
+  pub inner_lost : (own : ℕ) (us : List TextUnit) → EachIs (LiesInValue p) us → (a b : ℕ) → Fit (Some (Gone own)) a b (map old us)
+  inner_lost own [] lies a b = tt
+  inner_lost own (u ∷ us) lies a b =
+      by u.kind u.address u.base lies.0.0 lies.0.1 (λ x. inner_lost own us lies.1 x b)
     where
       above : (a : Address) → IsAbove p a → side p a ≡ sides.Above
       above a h = (sides_are_right p a).above.1 h
 
       Goal : UnitKind → Option Address → Option ℕ → Type 0
       Goal kind o base =
-          (is_kept kind (c ∷ []) (next_line (Some Gone) (record { kind = kind; address = o; base = base })) (record { kind = kind; address = o; base = base }) ≡ false)
-          × Fit (next_line (Some Gone) (record { kind = kind; address = o; base = base })) (a + one_line kind) b (map old us)
+          (is_kept kind (c ∷ []) (next_line (Some (Gone own)) (record { kind = kind; address = o; base = base })) (record { kind = kind; address = o; base = base }) ≡ false)
+          × Fit (next_line (Some (Gone own)) (record { kind = kind; address = o; base = base })) (a + one_line kind) b (map old us)
 
-      by : (kind : UnitKind) (o : Option Address) (base : Option ℕ) → is_inner kind ≡ true → At o (λ a. IsAbove p a ⊎ ((a ≡ p) × (kind ≡ kinds.InnerComment))) → ((x : ℕ) → Fit (Some Gone) x b (map old us)) → Goal kind o base
+      by : (kind : UnitKind) (o : Option Address) (base : Option ℕ) → is_inner kind ≡ true → At o (λ a. IsAbove p a ⊎ ((a ≡ p) × (kind ≡ kinds.InnerComment))) → ((x : ℕ) → Fit (Some (Gone own)) x b (map old us)) → Goal kind o base
       by kinds.Line o base inner lies more = absurd (true≢false (sym inner))
       by kinds.TailComment o base inner lies more = absurd (true≢false (sym inner))
       by kind None base inner lies more = absurd lies
@@ -189,14 +190,14 @@ module _ (table : Address) (name : List ℕ) (before after : List (List ℕ)) wh
       by kinds.Pair (Some x) None inner (inl h) more = (ap (λ s. not (is_named parts.Line c None s) && true) (above x h), more (a + 0))
       by kinds.Pair (Some x) (Some n) inner (inl h) more = (ap (λ s. not (is_named parts.Line c (Some n) s) && true) (above x h), more (a + 0))
       by kinds.Pair (Some x) base inner (inr h) more = let e = h.1 in cc
-      by kinds.InnerComment (Some x) base inner h more = (and_left (stands parts.Comment (c ∷ []) (Some x) base) home_gone, more (a + 0))
+      by kinds.InnerComment (Some x) base inner h more = (and_left (stands parts.Comment (c ∷ []) (Some x) base) (home_gone own), more (a + 0))
 
-  line_gone : stands parts.Line (c ∷ []) (Some p) (Some (length table)) ≡ false
-  line_gone = ap (λ s. not (is_named parts.Line c (Some (length table)) s) && true) at_it
+  pub line_gone : (own : ℕ) → stands parts.Line (c ∷ []) (Some p) (Some own) ≡ false
+  line_gone own = ap (λ s. not (is_named parts.Line c (Some own) s) && true) at_it
 
-  tail_lost : (o : Option Piece) (a b : ℕ) → Fit (Some Gone) a b (map old (comment_units kinds.TailComment (Some p) o))
-  tail_lost None a b = tt
-  tail_lost (Some piece) a b = (home_gone, tt)
+  pub tail_lost : (own : ℕ) (o : Option Piece) (a b : ℕ) → Fit (Some (Gone own)) a b (map old (comment_units kinds.TailComment (Some p) o))
+  tail_lost own None a b = tt
+  tail_lost own (Some piece) a b = (home_gone own, tt)
 
   -- what is left of the last line
   left_asked : (back : List TextUnit) (k : ℕ) → k + lines_in (left_of back ++ back) ≡ length after → (line : Option Site) (a : ℕ) → Fit line a k (map new (left_of back))
@@ -210,7 +211,7 @@ module _ (table : Address) (name : List ℕ) (lines : List Line) where
   gone = child table name
 
   abbrev edited : List Line
-  edited = remove_lines gone lines
+  edited = taken_lines gone lines
 
   abbrev Fitting : Option Site → ℕ → ℕ → List Step → Type 0
   Fitting = Fits (remove gone ∷ []) ([] ∷ []) (newlines lines) (newlines edited)
@@ -226,14 +227,14 @@ module _ (table : Address) (name : List ℕ) (lines : List Line) where
   abbrev Keep : Option Site → Option Site → ℕ → ℕ → List Step → Type 0
   Keep = Keeps (remove gone ∷ []) (newlines lines) (newlines edited)
 
-  taken_keeps : (h : AreTaken table name (units lines) (units edited) (newlines lines) (newlines edited))
+  taken_keeps : (h : AreTaken gone (units lines) (units edited) (newlines lines) (newlines edited))
       → EachIs (IsFar table name (newlines lines) (newlines edited)) h.taken.front
       → EachIs (IsFar table name (newlines lines) (newlines edited)) h.taken.back
-      → lines_in (pair_line_units h.piece gone (length table) h.value h.comment) ≡ 1
+      → lines_in (pair_line_units h.piece gone h.base h.value h.comment) ≡ 1
       → lines_in h.taken.front + (1 + lines_in h.taken.back) ≡ length (newlines lines)
       → lines_in h.taken.front + lines_in (left_of h.taken.back ++ h.taken.back) ≡ length (newlines edited)
       → Keep None None 0 0 (same_way h.taken.front ++
-      (map old (pair_line_units h.piece gone (length table) h.value h.comment) ++ (map new (left_of h.taken.back) ++ same_way h.taken.back)))
+      (map old (pair_line_units h.piece gone h.base h.value h.comment) ++ (map new (left_of h.taken.back) ++ same_way h.taken.back)))
   taken_keeps h front_far back_far block_lines old_total new_total =
       let c = remove gone in
       let before = newlines lines in
@@ -241,7 +242,7 @@ module _ (table : Address) (name : List ℕ) (lines : List Line) where
       let front = h.taken.front in
       let back = h.taken.back in
       let left = left_of back in
-      let block = pair_line_units h.piece gone (length table) h.value h.comment in
+      let block = pair_line_units h.piece gone h.base h.value h.comment in
       let n = lines_in front in
       let some = left_lines back h.taken.next in
       let line = line_after None (same_way front) in
@@ -271,7 +272,7 @@ module _ (table : Address) (name : List ℕ) (lines : List Line) where
       (new_keeps c before after left (left_blank back) behind mid (n + 1) n)
       (back_keeps h back back_far refl (line_after behind (map new left)) (next_after mid (map new left)) old_total new_total)))))
     where
-      back_keeps : (h : AreTaken table name (units lines) (units edited) (newlines lines) (newlines edited)) (back : List TextUnit)
+      back_keeps : (h : AreTaken gone (units lines) (units edited) (newlines lines) (newlines edited)) (back : List TextUnit)
           → EachIs (IsFar table name (newlines lines) (newlines edited)) back → back ≡ h.taken.back → (line next : Option Site)
           → lines_in h.taken.front + (1 + lines_in h.taken.back) ≡ length (newlines lines)
           → lines_in h.taken.front + lines_in (left_of h.taken.back ++ h.taken.back) ≡ length (newlines edited)
@@ -298,7 +299,7 @@ module _ (table : Address) (name : List ℕ) (lines : List Line) where
           })
           (inl (λ x low at. omega (arith, at, first, second))))
 
-  way_by : (h : AreTaken table name (units lines) (units edited) (newlines lines) (newlines edited))
+  way_by : (h : AreTaken gone (units lines) (units edited) (newlines lines) (newlines edited))
       → EachIs (IsFar table name (newlines lines) (newlines edited)) (units edited) → HasWay (remove gone ∷ []) ([] ∷ []) lines edited
   way_by h far =
       let front = h.taken.front in
@@ -306,7 +307,7 @@ module _ (table : Address) (name : List ℕ) (lines : List Line) where
       let left = left_of back in
       let inner = inside gone h.value in
       let tail = comment_units kinds.TailComment (Some gone) h.comment in
-      let block = pair_line_units h.piece gone (length table) h.value h.comment in
+      let block = pair_line_units h.piece gone h.base h.value h.comment in
       let all_far = subst (EachIs (IsFar table name (newlines lines) (newlines edited))) h.taken.after far in
       let front_far = each_front _ front (left ++ back) all_far in
       let back_far = each_back _ left back (each_back _ front (left ++ back) all_far) in
@@ -357,24 +358,25 @@ module _ (table : Address) (name : List ℕ) (lines : List Line) where
       map_append_old [] ys = refl
       map_append_old (x ∷ xs) ys = ap (λ l. old x ∷ l) (map_append_old xs ys)
 
-      after_inner : (xs : List TextUnit) → EachIs (LiesInValue gone) xs → line_after (Some (Gone table name (newlines lines) (newlines edited))) (map old xs) ≡ Some (Gone table name (newlines lines) (newlines edited))
-      after_inner [] lies = refl
-      after_inner (x ∷ xs) lies = ap (λ b. line_after (cond b (Some (site x)) (Some (Gone table name (newlines lines) (newlines edited)))) (map old xs)) (inner_line x.kind lies.0.0) ∙ after_inner xs lies.1
+      after_inner : (own : ℕ) (xs : List TextUnit) → EachIs (LiesInValue gone) xs → line_after (Some (Gone table name (newlines lines) (newlines edited) own)) (map old xs) ≡ Some (Gone table name (newlines lines) (newlines edited) own)
+      after_inner own [] lies = refl
+      after_inner own (x ∷ xs) lies = ap (λ b. line_after (cond b (Some (site x)) (Some (Gone table name (newlines lines) (newlines edited) own))) (map old xs)) (inner_line x.kind lies.0.0) ∙ after_inner own xs lies.1
 
-      block_goes : (h : AreTaken table name (units lines) (units edited) (newlines lines) (newlines edited)) (line : Option Site) (n : ℕ) → Fitting line n n (map old (pair_line_units h.piece gone (length table) h.value h.comment))
+      block_goes : (h : AreTaken gone (units lines) (units edited) (newlines lines) (newlines edited)) (line : Option Site) (n : ℕ) → Fitting line n n (map old (pair_line_units h.piece gone h.base h.value h.comment))
       block_goes h line n =
+          let own = h.base in
           let inner = inside gone h.value in
           let tail = comment_units kinds.TailComment (Some gone) h.comment in
           let lies = value_in gone h.value gone (inr refl) in (
-            line_gone table name (newlines lines) (newlines edited),
-            subst (Fitting (Some (Gone table name (newlines lines) (newlines edited))) (n + 1) n) (sym (map_append_old inner tail))
-                (fits_append (remove gone ∷ []) ([] ∷ []) (newlines lines) (newlines edited) (map old inner) (map old tail) (Some (Gone table name (newlines lines) (newlines edited))) (n + 1) n
-                (inner_lost table name (newlines lines) (newlines edited) inner lies (n + 1) n)
-                (subst (λ l. Fitting l ((n + 1) + lines_in (olds (map old inner))) (n + lines_in (news (map old inner))) (map old tail)) (sym (after_inner inner lies))
-                (tail_lost table name (newlines lines) (newlines edited) h.comment ((n + 1) + lines_in (olds (map old inner))) (n + lines_in (news (map old inner)))))),
+            line_gone table name (newlines lines) (newlines edited) own,
+            subst (Fitting (Some (Gone table name (newlines lines) (newlines edited) own)) (n + 1) n) (sym (map_append_old inner tail))
+                (fits_append (remove gone ∷ []) ([] ∷ []) (newlines lines) (newlines edited) (map old inner) (map old tail) (Some (Gone table name (newlines lines) (newlines edited) own)) (n + 1) n
+                (inner_lost table name (newlines lines) (newlines edited) own inner lies (n + 1) n)
+                (subst (λ l. Fitting l ((n + 1) + lines_in (olds (map old inner))) (n + lines_in (news (map old inner))) (map old tail)) (sym (after_inner own inner lies))
+                (tail_lost table name (newlines lines) (newlines edited) own h.comment ((n + 1) + lines_in (olds (map old inner))) (n + lines_in (news (map old inner)))))),
           )
 
-      back_stays : (h : AreTaken table name (units lines) (units edited) (newlines lines) (newlines edited)) (line : Option Site) (back : List TextUnit) → EachIs (IsFar table name (newlines lines) (newlines edited)) back → back ≡ h.taken.back
+      back_stays : (h : AreTaken gone (units lines) (units edited) (newlines lines) (newlines edited)) (line : Option Site) (back : List TextUnit) → EachIs (IsFar table name (newlines lines) (newlines edited)) back → back ≡ h.taken.back
           → Fitting line ((lines_in h.taken.front + 1) + lines_in (olds (map new (left_of h.taken.back)))) (lines_in h.taken.front + lines_in (news (map new (left_of h.taken.back)))) (same_way back)
       back_stays h line [] far is = tt
       back_stays h line (u ∷ us) far is =
@@ -386,6 +388,6 @@ module _ (table : Address) (name : List ℕ) (lines : List Line) where
           (same_fits table name (newlines lines) (newlines edited) (u ∷ us) far line (n + 1) n (inr (subst BeginWithLine (sym is) h.taken.next))
           (λ x low. inl (ap (slice_get (newlines lines)) (let e : (n + 1) + x ≡ n + suc x = omega arith in e) ∙ h.back_ends x (subst (λ l. x < lines_in l) is low))))
 
-  pub remove_way : AreLines lines → HasUndottedLine lines gone → KeepsRules (named lines)
+  pub taken_way : AreLines lines → HasLine lines gone → KeepsRules (named lines)
       → EachIs (IsFar table name (newlines lines) (newlines edited)) (units edited) → HasWay (remove gone ∷ []) ([] ∷ []) lines edited
-  remove_way is there keeps far = way_by (lines_taken table name lines is there keeps) far
+  taken_way is there keeps far = way_by (lines_taken gone lines is there keeps) far

@@ -1,5 +1,5 @@
 use Rattle.toml_editor.proofs.laws.standing_removed.Goals as goal
-use Rattle.toml_editor.proofs.written.RemoveStanding.{remove_stands}
+use Rattle.toml_editor.proofs.written.RemovedEither.{remove_stands}
 use Rattle.toml_editor.proofs.written.RootPairs.{root_pairs}
 
 pub returns-clause-root : goal.returns-clause-root

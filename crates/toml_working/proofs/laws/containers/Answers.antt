@@ -1,5 +1,5 @@
 use Rattle.toml_working.proofs.HeldLines.{held_inside, parent_held}
-use Rattle.toml_working.proofs.RemovedOne.{held_is_no_line, undotted_is_pair}
+use Rattle.toml_working.proofs.RemovedOne.{held_is_no_line}
 use Rattle.toml_working.proofs.laws.containers.Goals as goal
 
 pub returns-clause-parent : goal.returns-clause-parent
@@ -10,6 +10,3 @@ returns-clause-inside c = held_inside
 
 pub returns-clause-no_line : goal.returns-clause-no_line
 returns-clause-no_line c = held_is_no_line
-
-pub returns-clause-undotted : goal.returns-clause-undotted
-returns-clause-undotted c = undotted_is_pair

@@ -6,10 +6,10 @@ use Rattle.toml_working.proofs.removing.remove_in.Goals as goal
 pub returns-in-Some : goal.returns-in-Some
 returns-in-Some c =
     on_ok_weaker c.remove.result
-    (λ leaves stays.
+    (λ leaves.
     one_turns _ c.args.slot c.args.slots.now.items _ c.in-Some.lines.now c.remove.new.self
-    c.in-Some.ensures.item.3.0 c.in-Some.ensures.value refl (leaves stays))
+    c.in-Some.ensures.item.3.0 c.in-Some.ensures.value refl leaves)
     c.remove.ensures
 
 pub returns-in-None : goal.returns-in-None
-returns-in-None c stays = none_turns _ c.args.slot c.args.slots.now.items c.in-None.ensures.item.3
+returns-in-None c = none_turns _ c.args.slot c.args.slots.now.items c.in-None.ensures.item.3

@@ -14,9 +14,9 @@ returns c = λ lines are.
     sym (item_got c.args.facts.now c.args.number c.get.result c.get.ensures.lookup) ∙ ap option_copied (c.in_ok-facts.was {u = tt}) in
     let got = fact_got c.args.facts.now lines c.args.number c.in_ok-facts.facts.now are found in
     let f = c.in_ok-facts.facts.now in
-    let kept : Kept = record { line = c.args.number; span = f.span; is_tables = f.is_tables; is_last = f.is_last; first = c.args.first } in
+    let kept : Kept = record { line = c.args.number; span = f.span; is_last = f.is_last; first = c.args.first } in
     let own : is_line c.args.unit.now.kind ≡ true = elim c.match-matches.branch [
       | in-Line w ↦ ap is_line w.in-Line.is
       | in_default w ↦ absurd (true≢false (sym c.if-not-matches.false ∙ w.matches-is))
     ] in
-    record { own = own; begins = refl; counts = refl; line = got.0; is = got.1; says = fact_kept got.0 f kept got.2 refl refl refl }
+    record { own = own; begins = refl; counts = refl; line = got.0; is = got.1; says = fact_kept got.0 f kept got.2 refl refl }

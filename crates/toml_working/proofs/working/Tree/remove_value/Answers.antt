@@ -31,7 +31,7 @@ returns-then-depth-steps-clause-value c =
 pub returns-in_ok-remove_line-clause-line : goal.returns-in_ok-remove_line-clause-line
 returns-in_ok-remove_line-clause-line c =
     holder_goes c.args.at.now (read_of c.args.before) c.args.self.now c.remove_line.new.self c.args.place c.in_ok-remove_line.ensures.rest
-    c.in_ok-remove_line.ensures.slots
+    c.in_ok-remove_line.ensures.line
 
 pub returns-in_ok-remove_line-clause-value : goal.returns-in_ok-remove_line-clause-value
 returns-in_ok-remove_line-clause-value c found not_root ss stands ordered there =

@@ -1,0 +1,10 @@
+use Rattle.std.proofs.Common.{◌≡◌, List, drop, false}
+use Rattle.std.specs.List.{list_any}
+use Rattle.toml_tree.specs.Tree as tree
+use Rattle.toml_working.specs.Seeing.{read_by}
+use Rattle.toml_working.proofs.MadeBeside.{has_maker}
+use Rattle.toml_working.proofs.removing.is_made_above.Given as goal
+
+abbrev pub invariant-loop-place : goal.invariant-loop-place
+invariant-loop-place l =
+    (lines : List tree.Line) → list_any (has_maker l.address l.other (read_by l.units lines)) (drop l.place l.slots) ≡ false
