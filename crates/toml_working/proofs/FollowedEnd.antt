@@ -28,7 +28,7 @@ use Rattle.toml_working.specs.PuttingHeaders.{HasNoBytesAt, IsEnd, PutsHeader, P
 use Rattle.toml_working.specs.Standing.{Standing, Read, body_outline, line_standing, slots_standing}
 use Rattle.toml_working.specs.Stands.{KeepsRest, Stands}
 use Rattle.toml_working.proofs.AtPlace.{slot_of}
-use Rattle.toml_working.proofs.Followed.{both_no, last_none, last_split}
+use Rattle.toml_working.proofs.WentUp.{both_no, last_none, last_split}
 use Rattle.toml_working.proofs.HeaderPut.{last_put}
 use Rattle.toml_working.proofs.Placed.{split_at}
 use Rattle.toml_working.proofs.PutRoot.{kept_new}

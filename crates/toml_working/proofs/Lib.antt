@@ -17,6 +17,7 @@ mod HeaderSteps
 mod NoBytes
 mod NextFound
 mod HeaderPut
+mod WentUp
 mod Followed
 mod FollowedEnd
 mod HeaderAdded

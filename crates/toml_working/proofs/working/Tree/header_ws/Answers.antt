@@ -3,7 +3,7 @@ use Rattle.toml_working.specs.Following.{FindsLandmark}
 use Rattle.toml_working.specs.FollowingHeaders.{has_parts}
 use Rattle.toml_working.specs.RenameStanding.{names_in}
 use Rattle.toml_working.specs.Starting.{read_of}
-use Rattle.toml_working.proofs.Followed.{no_ws, ws_found}
+use Rattle.toml_working.proofs.WentUp.{no_ws, ws_found}
 use Rattle.toml_working.proofs.working.Tree.header_ws.Goals as goal
 
 pub returns-in_ok-look_at-in-Some : goal.returns-in_ok-look_at-in-Some

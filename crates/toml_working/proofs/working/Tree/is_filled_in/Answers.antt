@@ -2,7 +2,7 @@ use Rattle.std.proofs.Common.{◌∙◌, ap, arith}
 use Rattle.std.specs.List.{list_any}
 use Rattle.toml_working.specs.FollowingHeaders.{is_filled}
 use Rattle.toml_working.specs.Starting.{read_of}
-use Rattle.toml_working.proofs.Followed.{filled_found, filled_past, filled_slot}
+use Rattle.toml_working.proofs.WentUp.{filled_found, filled_past, filled_slot}
 use Rattle.toml_working.proofs.working.Tree.is_filled_in.Goals as goal
 
 pub returns-then-branch : goal.returns-then-branch

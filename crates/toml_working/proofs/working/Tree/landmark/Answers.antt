@@ -2,7 +2,7 @@ use Rattle.std.proofs.Common.{◌-◌, subst, arith}
 use Rattle.std.specs.Prelude.{MatchOption}
 use Rattle.toml_working.specs.Following.{IsLastThat, NoneUpTo, is_landmark}
 use Rattle.toml_working.specs.Starting.{read_of}
-use Rattle.toml_working.proofs.Followed.{none_up, none_yet, up_slot}
+use Rattle.toml_working.proofs.WentUp.{none_up, none_yet, up_slot}
 use Rattle.toml_working.proofs.working.Tree.landmark.Goals as goal
 
 pub returns-in-Some : goal.returns-in-Some

@@ -1,7 +1,7 @@
 use Rattle.std.proofs.Common.{arith}
 use Rattle.toml_working.specs.Following.{is_landmark}
 use Rattle.toml_working.specs.Starting.{read_of}
-use Rattle.toml_working.proofs.Followed.{up_found, up_past}
+use Rattle.toml_working.proofs.WentUp.{up_found, up_past}
 use Rattle.toml_working.proofs.working.Tree.landmark_in.Goals as goal
 
 pub returns-then-branch : goal.returns-then-branch

@@ -1,5 +1,5 @@
 use Rattle.std.proofs.Common.{arith}
-use Rattle.toml_working.proofs.Followed.{past_before}
+use Rattle.toml_working.proofs.WentUp.{past_before}
 use Rattle.toml_working.proofs.working.Tree.text_end.Goals as goal
 
 pub returns : goal.returns
