@@ -14,7 +14,8 @@ use Rattle.toml_working.specs.declared.headers.Landmark.TheVariants as marks
 use Rattle.toml_working.specs.declared.lines.Slot.{Slot}
 use Rattle.toml_working.specs.declared.working.Position.{Position}
 use Rattle.toml_working.specs.declared.working.Tree.{Tree}
-use Rattle.toml_working.specs.FollowingHeaders.{behind_family, behind_section, blank_line, ends_empty, ends_filled, ends_in_newline, family, header_behind, header_ws, is_close, parts_end, put_at_end, put_following, has_parts, is_filled, is_header_line, is_no_comment}
+use Rattle.toml_working.specs.FollowingHeaders.{behind_family, behind_section, blank_line, ends_empty, ends_filled, ends_in_newline, family, header_behind}
+use Rattle.toml_working.specs.FollowingHeaders.{header_ws, is_close, parts_end, put_at_end, put_following, has_parts, is_filled, is_header_line, is_no_comment}
 use Rattle.toml_working.specs.Headers.{element_of, put_last}
 use Rattle.toml_working.specs.InsertStanding.{is_bare}
 use Rattle.toml_working.specs.Placing.{lines_before, lines_from}

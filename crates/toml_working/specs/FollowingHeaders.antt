@@ -13,12 +13,13 @@ use Rattle.toml_working.specs.Standing.{Standing, is_below}
 
 -- ---- how it begins
 
--- the last line that is so, if there is one
+-- a later line that is so, if there is one, else this one, if it is so
 abbrev pub or_earlier : Option Standing → Bool → Standing → Option Standing
 or_earlier (Some later) so s = Some later
 or_earlier None true s = Some s
 or_earlier None false s = None
 
+-- the last line that is so, if there is one
 abbrev pub last_that : (Standing → Bool) → List Standing → Option Standing
 last_that f [] = None
 last_that f (s ∷ ss) = or_earlier (last_that f ss) (f s) s
@@ -32,6 +33,7 @@ abbrev pub is_header_in : ℕ → Option ℕ → Option Address → Bool
 is_header_in n base None = false
 is_header_in n base (Some a) = is_header base (Some a) && names_in a == n
 
+-- the same of what stands on a line
 abbrev pub has_parts : ℕ → Standing → Bool
 has_parts n s = is_header_in n s.base s.address
 
@@ -50,6 +52,7 @@ header_behind p brackets front newline = new_header p brackets (header_ws p fron
 
 -- ---- behind a section
 
+-- whether something stands on a line
 abbrev pub is_filled : Standing → Bool
 is_filled s = not (is_blank s)
 
@@ -128,6 +131,7 @@ but_last (s ∷ t ∷ ss) = s ∷ but_last (t ∷ ss)
 abbrev pub parts_end : List Standing → Bool
 parts_end ss = ends_empty ss && (ends_filled (but_last ss) && not (is_close [] (but_last ss)))
 
+-- a blank line that ends so
 abbrev pub blank_line : List ℕ → Standing
 blank_line newline = record { address = None; base = None; outline = alone Nothing newline }
 
