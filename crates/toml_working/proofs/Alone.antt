@@ -191,7 +191,7 @@ none_so_far what p units slots i r lines low finds is so_far =
 
 -- ---- headers
 
-any_or : (b : Bool) → (b || true) ≡ true
+pub any_or : (b : Bool) → (b || true) ≡ true
 any_or true = refl
 any_or false = refl
 

@@ -1,50 +1,47 @@
 -- A header line that is put in.
-use Rattle.std.proofs.Common.{◌≡◌, ◌∙◌, ℕ, zero, suc, ◌+◌, ◌-◌, ◌^◌, ◌<◌, ◌≤◌, Bool, true, false, cond, not, List, [], ◌∷◌, ◌++◌, length, Option, Some, None, refl, ap, ap₂, sym, subst, arith, append_assoc}
+use Rattle.std.proofs.Common.{◌≡◌, ◌∙◌, ℕ, zero, suc, ◌+◌, ◌-◌, ◌^◌, ◌<◌, ◌≤◌, Bool, true, false, cond, List, [], ◌∷◌, ◌++◌, length, Option, Some, None, refl, ap, ap₂, sym, subst, arith, append_assoc}
 use Rattle.std.specs.Prelude.{option_and_then, slice_get}
-use Rattle.std.specs.List.{list_any}
 use Rattle.std.specs.declared.alloc.Global.{Global}
 use Rattle.std.specs.declared.string.String.{String}
 use Rattle.std.proofs.lemmas.Option.{none-some, slice_get_within}
 use Rattle.toml_names.specs.model.Addresses.{Address}
 use Rattle.toml_text.specs.Source.{text_of}
-use Rattle.toml_layout.specs.declared.layout.Layout.{Layout}
-use Rattle.toml_layout.specs.declared.layout.Layout.TheVariants as layouts
 use Rattle.toml_layout.specs.declared.texts.Texts.{Texts}
 use Rattle.toml_layout.specs.declared.tree.Brackets.{Brackets}
 use Rattle.toml_working.specs.declared.lines.Line.{Line}
 use Rattle.toml_working.specs.declared.lines.Slot.{Slot}
-use Rattle.toml_working.specs.declared.lines.Sought.TheVariants as sought
 use Rattle.toml_working.specs.declared.working.Position.{Position}
-use Rattle.toml_working.specs.Headers.{ElementStands, before_next, has_no_bytes, header_outline, innermost, new_header, or_last, put_after, put_last, put_plainly}
+use Rattle.toml_working.specs.Headers.{ElementStands, before_next, has_no_bytes, header_outline, new_header, or_last, put_after, put_last}
+use Rattle.toml_working.specs.Looking.{BodyBegins}
 use Rattle.toml_working.specs.NextHeaders.{FindsPlace}
 use Rattle.toml_working.specs.OpeningLines.{HasOutline}
 use Rattle.toml_working.specs.Placing.{lines_before, lines_from}
 use Rattle.toml_working.specs.Putting.{EndsBefore, PutsSlots, ended_before, newline_behind}
-use Rattle.toml_working.specs.PuttingHeaders.{AddsPlainly, HasNoBytesAt, IsEnd, IsHeaderOf, PutsHeader, PutsLast, PutsPlainly}
-use Rattle.toml_working.specs.Seeing.{HoldsNone, IsSoughtAt}
-use Rattle.toml_working.specs.Standing.{Standing, Read, StandAlone, body_outline, holds, line_standing, slot_standing, slots_standing}
-use Rattle.toml_working.specs.Stands.{Stands}
-use Rattle.toml_working.proofs.Alone.{sought_there}
+use Rattle.toml_working.specs.PuttingHeaders.{AddsPlainly, HasNoBytesAt, IsEnd, IsHeaderOf, PutsHeader, PutsLast}
+use Rattle.toml_working.specs.Standing.{Standing, Read, body_outline, line_standing, slot_standing, slots_standing}
 use Rattle.toml_working.proofs.AtPlace.{slot_of}
+use Rattle.toml_working.proofs.Looked.{body_begun}
 use Rattle.toml_working.proofs.Placed.{behind_line, from_first, from_line, from_next, split_at}
 use Rattle.toml_working.proofs.PutRoot.{kept_new}
 
 -- ---- the line
 
-header_stands : (read : Read) (p : Address) (brackets : Brackets) (newline : List ℕ) (l : Line) → l.address ≡ Some p → l.base ≡ None
-    → HasOutline (header_outline p brackets [] newline) l.body → line_standing read l ≡ new_header p brackets [] newline
-header_stands read p brackets newline l address base (n, is, outlined) =
+header_stands : (read : Read) (p : Address) (brackets : Brackets) (ws newline : List ℕ) (l : Line) → l.address ≡ Some p → l.base ≡ None
+    → HasOutline (header_outline p brackets ws newline) l.body → line_standing read l ≡ new_header p brackets ws newline
+header_stands read p brackets ws newline l address base (n, is, outlined) =
     ap₂ (λ x y. record { address = x; base = y; outline = body_outline read l.body }) address base
     ∙ ap (λ x. record { address = Some p; base = None; outline = x }) (ap (body_outline read) is ∙ outlined)
 
-pub header_put : (p : Address) (brackets : Brackets) (steps : List (String Global)) (style : List ℕ) (read : Read) (at : Position) (l : Line) (old now : List Slot)
-    (done : Bool) → IsHeaderOf p brackets steps style l → PutsSlots read at l old now → (at.slot < length old → done ≡ true)
-    → PutsHeader p brackets steps style read at old now done
-header_put p brackets steps style read at l old now done is puts answers spells low text kept =
+pub header_put : (p : Address) (brackets : Brackets) (ws : List ℕ) (steps : List (String Global)) (style : List ℕ) (read : Read) (at : Position) (l laid : Line)
+    (old now : List Slot) (done : Bool) → IsHeaderOf p brackets steps style l → laid.address ≡ l.address → laid.base ≡ l.base → BodyBegins ws None l.body laid.body
+    → PutsSlots read at laid old now → (at.slot < length old → done ≡ true) → PutsHeader p brackets ws steps style read at old now done
+header_put p brackets ws steps style read at l laid old now done is address_same base_same begins puts answers spells low text kept =
     let (address, base, outlined) = is spells in
-    let (kept_now, are) = puts low text kept (kept_new text read _ l.body outlined) in (
+    let begun = body_begun ws None l.body laid.body (header_outline p brackets [] style) outlined begins in
+    let (kept_now, are) = puts low text kept (kept_new text read _ laid.body begun) in (
       kept_now,
-      are ∙ ap (λ s. lines_before read old at.slot at.index ++ s ∷ lines_from read old at.slot at.index) (header_stands read p brackets style l address base outlined),
+      are ∙ ap (λ s. lines_before read old at.slot at.index ++ s ∷ lines_from read old at.slot at.index)
+          (header_stands read p brackets ws style laid (address_same ∙ address) (base_same ∙ base) begun),
       answers low,
     )
 
@@ -84,7 +81,7 @@ module _ (read : Read) (slots : List Slot) (here count : ℕ) (slot : Slot) (som
       line_within (s ∷ ss) zero low = (s, refl)
       line_within (s ∷ ss) (suc n) low = line_within ss n (omega (arith, low))
 
-last_put : (new : List ℕ → Standing) (style : List ℕ) (s : Standing) (front : List Standing)
+pub last_put : (new : List ℕ → Standing) (style : List ℕ) (s : Standing) (front : List Standing)
     → put_last new style (front ++ s ∷ []) ≡ front ++ cond (has_no_bytes s.outline) (new style ∷ s ∷ []) (put_after new style s s.outline.newline)
 last_put new style s [] = refl
 last_put new style s (x ∷ []) = refl
@@ -95,9 +92,9 @@ put_after_is : (new : List ℕ → Standing) (style : List ℕ) (s : Standing) (
 put_after_is new style s [] = refl
 put_after_is new style s (b ∷ bs) = refl
 
-module _ (p : Address) (brackets : Brackets) (steps : List (String Global)) (style : List ℕ) (texts : Texts) (read : Read) where
+module _ (p : Address) (brackets : Brackets) (ws : List ℕ) (steps : List (String Global)) (style : List ℕ) (texts : Texts) (read : Read) where
   abbrev new : List ℕ → Standing
-  new = new_header p brackets []
+  new = new_header p brackets ws
 
   abbrev text : List ℕ
   text = text_of texts.source
@@ -107,7 +104,7 @@ module _ (p : Address) (brackets : Brackets) (steps : List (String Global)) (sty
 
   -- it goes before the last line, which has no bytes
   pub before_end : (at : Position) (old now : List Slot) (done b : Bool) → IsEnd read old at → HasNoBytesAt old at b → b ≡ true
-      → PutsHeader p brackets steps style read at old now done → PutsLast p brackets steps style text read old now done
+      → PutsHeader p brackets ws steps style read at old now done → PutsLast p brackets ws steps style text read old now done
   before_end at old now done b end tells is puts spells ss stands some =
       let (slot, there, own) = slot_of read old at end.line end.there in
       let (kept, are, answer) = puts spells (slice_get_within old at.slot slot there) text stands.kept in
@@ -124,32 +121,33 @@ module _ (p : Address) (brackets : Brackets) (steps : List (String Global)) (sty
       )
 
   -- or behind it
-  pub behind_end : (at next : Position) (old mid now : List Slot) (newline : List ℕ) (l : Line) (done b : Bool) → IsEnd read old at → HasNoBytesAt old at b → b ≡ false
-      → EndsBefore style texts read at old mid newline → IsHeaderOf p brackets steps newline l
-      → next.slot ≡ at.slot → (at.index + 1 < 2 ^ 64 → next.index ≡ at.index + 1) → PutsSlots read next l mid now → (next.slot < length mid → done ≡ true)
-      → PutsLast p brackets steps style text read old now done
-  behind_end at next old mid now newline l done b end tells is ends is_line slot index puts answers spells ss stands some =
+  pub behind_end : (at next : Position) (old mid now : List Slot) (newline : List ℕ) (l laid : Line) (done b : Bool) → IsEnd read old at → HasNoBytesAt old at b
+      → b ≡ false → EndsBefore style texts read at old mid newline → IsHeaderOf p brackets steps newline l → laid.address ≡ l.address → laid.base ≡ l.base
+      → BodyBegins ws None l.body laid.body → next.slot ≡ at.slot → (at.index + 1 < 2 ^ 64 → next.index ≡ at.index + 1) → PutsSlots read next laid mid now
+      → (next.slot < length mid → done ≡ true) → PutsLast p brackets ws steps style text read old now done
+  behind_end at next old mid now newline l laid done b end tells is ends is_line address_same base_same begins slot index puts answers spells ss stands some =
       let s = end.line in
       let (own_slot, there, own) = slot_of read old at s end.there in
       let (kept_mid, ended) = ends stands.kept in
       let (becomes, newline_is) = ended s end.there in
       let (address, base, outlined) = is_line spells in
+      let begun = body_begun ws None l.body laid.body (header_outline p brackets [] newline) outlined begins in
       let within : next.slot < length mid =
       subst (λ k. k < length mid) (sym slot) (subst (λ n. at.slot < n) (sym becomes.count) (slice_get_within old at.slot own_slot there)) in
-      let (kept_now, are) = puts within text kept_mid (kept_new text read _ l.body outlined) in
+      let (kept_now, are) = puts within text kept_mid (kept_new text read _ laid.body begun) in
       let front = lines_before read old at.slot at.index in
       let before : lines_before read mid next.slot next.index ≡ front ++ ended_before style s s.outline.newline ∷ [] =
       ap₂ (lines_before read mid) slot (index end.next) ∙ becomes.before in
       let behind : lines_from read mid next.slot next.index ≡ [] =
       ap₂ (lines_from read mid) slot (index end.next) ∙ becomes.behind ∙ sym (behind_line read old at s [] end.there end.from) in
-      let made : line_standing read l ≡ new (newline_behind style s.outline.newline) =
-      header_stands read p brackets newline l address base outlined ∙ ap new newline_is in
+      let made : line_standing read laid ≡ new (newline_behind style s.outline.newline) =
+      header_stands read p brackets ws newline laid (address_same ∙ address) (base_same ∙ base) begun ∙ ap new newline_is in
       let full : has_no_bytes s.outline ≡ false = sym (tells text read stands.kept s end.there) ∙ is in (
         record {
           kept = kept_now;
           are =
-              are ∙ ap₂ (λ x y. x ++ line_standing read l ∷ y) before behind
-              ∙ append_assoc front (ended_before style s s.outline.newline ∷ []) (line_standing read l ∷ [])
+              are ∙ ap₂ (λ x y. x ++ line_standing read laid ∷ y) before behind
+              ∙ append_assoc front (ended_before style s s.outline.newline ∷ []) (line_standing read laid ∷ [])
               ∙ ap (λ x. front ++ (ended_before style s s.outline.newline ∷ x ∷ [])) made
               ∙ ap (λ x. front ++ x) (sym (put_after_is new style s s.outline.newline))
               ∙ sym (ap (λ c. front ++ cond c (new style ∷ s ∷ []) (put_after new style s s.outline.newline)) full)
@@ -159,65 +157,37 @@ module _ (p : Address) (brackets : Brackets) (steps : List (String Global)) (sty
       )
 
   -- there is no line
-  pub no_end : (old now : List Slot) (done : Bool) → slots_standing read old ≡ [] → PutsLast p brackets steps style text read old now done
+  pub no_end : (old now : List Slot) (done : Bool) → slots_standing read old ≡ [] → PutsLast p brackets ws steps style text read old now done
   no_end old now done none spells ss stands some = absurd (some (sym stands.are ∙ none))
 
-  -- ---- where it goes
+-- ---- where it goes
+
+module _ (p : Address) (brackets : Brackets) (steps : List (String Global)) (style : List ℕ) (texts : Texts) (read : Read) where
+  abbrev plain : List ℕ → Standing
+  plain = new_header p brackets []
 
   pub at_next : (element : Option Address) (next : Position) (old now : List Slot) (done : Bool) → FindsPlace element read.units old (Some next)
-      → PutsHeader p brackets steps style read next old now done → AddsPlainly element p brackets steps style text read old now done
+      → PutsHeader p brackets [] steps style read next old now done → AddsPlainly element p brackets steps style (text_of texts.source) read old now done
   at_next None next old now done finds puts spells ss stands some element = absurd (none-some next (sym finds))
   at_next (Some e) next old now done finds puts spells ss stands some element =
       let (low, put) = finds read.lines (subst (ElementStands (Some e)) (sym stands.are) element) in
-      let (kept, are, answer) = puts spells low text stands.kept in (
+      let (kept, are, answer) = puts spells low (text_of texts.source) stands.kept in (
         record {
           kept = kept;
-          are = are ∙ sym (ap (or_last new style ss) (ap (before_next e (new style)) (sym stands.are) ∙ put (new style)));
+          are = are ∙ sym (ap (or_last plain style ss) (ap (before_next e (plain style)) (sym stands.are) ∙ put (plain style)));
         },
         answer,
       )
 
   pub at_end : (element : Option Address) (old now : List Slot) (done : Bool) → FindsPlace element read.units old None
-      → PutsLast p brackets steps style text read old now done → AddsPlainly element p brackets steps style text read old now done
+      → PutsLast p brackets [] steps style (text_of texts.source) read old now done → AddsPlainly element p brackets steps style (text_of texts.source) read old now done
   at_end None old now done finds puts spells ss stands some element = puts spells ss stands some
   at_end (Some e) old now done finds puts spells ss stands some element =
       let (low, put) = finds read.lines (subst (ElementStands (Some e)) (sym stands.are) element) in
       let (last, answer) = puts spells ss stands some in (
         record {
           kept = last.kept;
-          are = last.are ∙ sym (ap (or_last new style ss) (ap (before_next e (new style)) (sym stands.are) ∙ put (new style)));
+          are = last.are ∙ sym (ap (or_last plain style ss) (ap (before_next e (plain style)) (sym stands.are) ∙ put (plain style)));
         },
         answer,
       )
-
--- ---- in layout `Plain`
-
-pub not_both : (layout : Layout) → layout ≡ layouts.Plain → layout ≡ layouts.Follow → ⊥
-not_both layout plain follow = cc
-
-module _ (q p : Address) (element : Option Address) (brackets : Brackets) (steps : List (String Global)) (style text : List ℕ) (read : Read) (old : List Slot) where
-  -- a line's value stands right above, or holds what does
-  pub refused : (place : Position) → IsSoughtAt sought.Holder q read old place → PutsPlainly q element p brackets steps style text read old old false
-  refused place found asked ss stands ordered take =
-      let held : list_any (holds q) ss ≡ true = ap (list_any (holds q)) (sym stands.are) ∙ sought_there sought.Holder q read old place found in (
-        subst (Stands text read old) (sym (ap (λ b. cond b ss (put_plainly (innermost q) (new_header p brackets []) style ss)) held)) stands,
-        sym (ap not held),
-      )
-
-  -- none does
-  pub added : (now : List Slot) (done : Bool) → HoldsNone q read.units old → AddsPlainly element p brackets steps style text read old now done
-      → PutsPlainly q element p brackets steps style text read old now done
-  added now done none adds asked ss stands ordered take =
-      let free : list_any (holds q) ss ≡ false = none_held q none in
-      let (put, answer) = adds asked.spells ss stands take.some (subst (λ o. ElementStands o ss) (sym asked.inner) take.element) in (
-        subst (Stands text read now)
-            (ap (λ o. put_plainly o (new_header p brackets []) style ss) asked.inner
-            ∙ sym (ap (λ b. cond b ss (put_plainly (innermost q) (new_header p brackets []) style ss)) free))
-            put,
-        answer ∙ sym (ap not free),
-      )
-    where
-      none_held : (r : Address) → HoldsNone r read.units old → list_any (holds r) ss ≡ false
-      none_held [] h = take.root
-      none_held (s ∷ r) h =
-          ap (list_any (holds (s ∷ r))) (sym stands.are) ∙ h (λ e. cc) read.lines (subst StandAlone (sym stands.are) ordered.alone)

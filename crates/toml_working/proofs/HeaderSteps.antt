@@ -39,13 +39,6 @@ same_begun a b long =
     same_bool (begins a b) (same_address a b) (λ h. (same_address-decides a b).1 (begun_whole a b long h))
     (λ h. subst (λ x. begins a x ≡ true) ((same_address-decides a b).0 h) (begins_self a))
 
-pub same_long : (a b : Address) → (length a ≡ length b → ⊥) → false ≡ same_address a b
-same_long a b differ = by (same_address a b) refl
-  where
-    by : (x : Bool) → same_address a b ≡ x → false ≡ x
-    by true h = absurd (differ (ap length ((same_address-decides a b).0 h)))
-    by false h = refl
-
 -- ---- elements
 
 pub ends_in_index : (array : Address) (i : ℕ) → element_of (array ++ Index i ∷ []) ≡ Some (array, i)

@@ -17,6 +17,10 @@ mod HeaderSteps
 mod NoBytes
 mod NextFound
 mod HeaderPut
+mod WentUp
+mod Followed
+mod FollowedEnd
+mod HeaderAdded
 mod Alone
 mod Turned
 mod Changed

@@ -1,5 +1,5 @@
 -- Lines that have no bytes.
-use Rattle.std.proofs.Common.{◌≡◌, ◌∙◌, ◌↔◌, ℕ, zero, suc, ◌-◌, ◌≤◌, ◌==◌, Bool, true, false, ◌&&◌, not, List, [], ◌∷◌, ◌++◌, length, drop, map, Option, Some, None, IsTrue, refl, ap, ap₂, sym, subst, arith, slice_range, length-drop, true≢false}
+use Rattle.std.proofs.Common.{◌≡◌, ◌∙◌, ℕ, zero, suc, ◌-◌, ◌≤◌, ◌==◌, Bool, true, false, ◌&&◌, not, List, [], ◌∷◌, ◌++◌, length, drop, map, Option, Some, None, refl, ap, ap₂, sym, subst, arith, slice_range, length-drop, true≢false}
 use Rattle.std.specs.Prelude.{is_some, option_map, slice_get}
 use Rattle.std.specs.declared.alloc.Global.{Global}
 use Rattle.std.specs.declared.vec.Vec.{Vec}
@@ -50,15 +50,6 @@ empty_is l h =
     ap₂ (λ w e. record { ws = w; expr = e; tail = l.tail; comment = l.comment; newline = l.newline }) (none_is l.ws ws) (nothing_is l.expr expr)
     ∙ ap₂ (λ t c. record { ws = []; expr = outline.Nothing; tail = t; comment = c; newline = l.newline }) (none_is l.tail tail) (no_comment_is l.comment comment)
     ∙ ap (λ n. record { ws = []; expr = outline.Nothing; tail = []; comment = None; newline = n }) (none_is l.newline newline)
-
--- told by a test
-pub told : (l : LineOutline) (b : Bool) → IsTrue b ↔ (l ≡ no_line) → b ≡ has_no_bytes l
-told l true tells = sym (ap has_no_bytes (tells.0 refl))
-told l false tells = by (has_no_bytes l) refl
-  where
-    by : (c : Bool) → has_no_bytes l ≡ c → false ≡ c
-    by true is = tells.1 (empty_is l is)
-    by false is = refl
 
 -- ---- lines of a text
 

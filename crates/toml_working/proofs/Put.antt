@@ -109,7 +109,7 @@ pub no_slot_ended : (newline : List ℕ) (texts : Texts) (read : Read) (at : Pos
 no_slot_ended newline texts read at old past kept = (kept, λ s e. absurd (no_line read old at s (slice_get_past old at.slot past) e))
 
 -- a line that stays
-before_next : (read : Read) (old : List Slot) (k i : ℕ) (slot : Slot) (s : Standing) → slice_get old k ≡ Some slot → slice_get (slot_standing read slot) i ≡ Some s
+pub before_next : (read : Read) (old : List Slot) (k i : ℕ) (slot : Slot) (s : Standing) → slice_get old k ≡ Some slot → slice_get (slot_standing read slot) i ≡ Some s
     → lines_before read old k (i + 1) ≡ lines_before read old k i ++ s ∷ []
 before_next read [] k i slot s there at = cc
 before_next read (x ∷ xs) zero i slot s there at =

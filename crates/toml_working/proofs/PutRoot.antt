@@ -115,7 +115,7 @@ pair_line_is own base steps parts v newline a l same assigns address base_is (n,
 -- ---- behind the last one of some lines
 
 -- from each line in front of the rest on, another of the lines that are meant follows
-abbrev Lead : (List Standing → Bool) → List Standing → List Standing → Type 0
+abbrev pub Lead : (List Standing → Bool) → List Standing → List Standing → Type 0
 Lead more [] rest = Unit {0}
 Lead more (x ∷ front) rest = (more (front ++ rest) ≡ true) × Lead more front rest
 
@@ -134,11 +134,11 @@ module _ (s : Standing) (back : List Standing) (pair : IsPair s) where
   no_header_or None None h = refl
   no_header_or None (Some a) h = cc
 
-  has_front : (front : List Standing) → EachIs IsNoHeader front → has_pair (front ++ s ∷ back) ≡ true
+  pub has_front : (front : List Standing) → EachIs IsNoHeader front → has_pair (front ++ s ∷ back) ≡ true
   has_front [] heads = ap (λ b. pair_or b s.address (has_pair back)) pair.1
   has_front (x ∷ front) heads = ap (pair_or x.base x.address) (has_front front heads.1) ∙ no_header_or x.base x.address heads.0
 
-  pairs_lead : (front : List Standing) → EachIs IsNoHeader front → Lead has_pair front (s ∷ back)
+  pub pairs_lead : (front : List Standing) → EachIs IsNoHeader front → Lead has_pair front (s ∷ back)
   pairs_lead [] heads = tt
   pairs_lead (x ∷ front) heads = (has_front front heads.1, pairs_lead front heads.1)
 

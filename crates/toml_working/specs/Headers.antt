@@ -15,7 +15,7 @@ use Rattle.toml_working.specs.declared.lines.Sought.TheVariants as sought
 use Rattle.toml_working.specs.InsertStanding.{end_in}
 use Rattle.toml_working.specs.Placing.{is_header}
 use Rattle.toml_working.specs.Seeing.{is_sought_line}
-use Rattle.toml_working.specs.Standing.{Standing, holds}
+use Rattle.toml_working.specs.Standing.{Standing}
 
 -- ---- the line
 
@@ -35,17 +35,19 @@ abbrev pub header_outline : Address → Brackets → List ℕ → List ℕ → L
 header_outline p brackets ws newline =
     record { ws = ws; expr = header_of brackets (map spelled (names_of p)); tail = []; comment = None; newline = newline }
 
+-- the line with it
 abbrev pub new_header : Address → Brackets → List ℕ → List ℕ → Standing
 new_header p brackets ws newline = record { address = Some p; base = None; outline = header_outline p brackets ws newline }
 
 -- ---- where it goes, in layout `Plain`
 
--- the element at the address, or the innermost one above it: the address up to its last index
+-- one step more before the innermost element of the steps behind it
 abbrev pub inner_of : Option Address → Step → Option Address
 inner_of (Some steps) s = Some (s ∷ steps)
 inner_of None (Name n) = None
 inner_of None (Index i) = Some (Index i ∷ [])
 
+-- the element at the address, or the innermost one above it: the address up to its last index
 abbrev pub innermost : Address → Option Address
 innermost [] = None
 innermost (s ∷ steps) = inner_of (innermost steps) s
@@ -65,12 +67,13 @@ before_next e new [] = None
 before_next e new (s ∷ ss) = option_map (λ r. s ∷ r) (
     if has_below e ss then before_next e new ss else if is_sought_line sought.HeaderBelow e s then before_header new ss else None)
 
--- whether a line has no bytes: nothing stands on it, and it ends in no newline
+-- whether neither a key nor a header stands on a line
 abbrev pub is_nothing : ExprOutline → Bool
 is_nothing outline.Nothing = true
 is_nothing (outline.Pair a v) = false
 is_nothing (outline.Header opening before first rest after closing) = false
 
+-- whether a line has no bytes: nothing stands on it, and it ends in no newline
 abbrev pub has_no_bytes : LineOutline → Bool
 has_no_bytes l = is_nothing l.expr && (length l.ws == 0) && (length l.tail == 0) && not (is_some l.comment) && (length l.newline == 0)
 
@@ -96,18 +99,14 @@ abbrev pub put_plainly : Option Address → (List ℕ → Standing) → List ℕ
 put_plainly None new style ss = put_last new style ss
 put_plainly (Some e) new style ss = or_last new style ss (before_next e (new style) ss)
 
--- The header line of what stands at `p` right below `q` is put in, where no line's value stands at `q` or holds what does.
-abbrev pub header_standing : Address → Address → Brackets → List ℕ → List Standing → List Standing
-header_standing q p brackets style ss =
-    if list_any (holds q) ss then ss else put_plainly (innermost q) (new_header p brackets []) style ss
-
 -- ---- what documents have under the table rules
 
--- the array and the index of an element, if the address is one's
+-- the index of an element of the root, if the step is an index
 abbrev pub index_alone : Step → Option (Address × ℕ)
 index_alone (Name n) = None
 index_alone (Index i) = Some ([], i)
 
+-- the array and the index of an element, if the address is one's
 abbrev pub element_of : Address → Option (Address × ℕ)
 element_of [] = None
 element_of (s ∷ []) = index_alone s
@@ -119,6 +118,7 @@ later_in None other = false
 later_in (Some (array, index)) None = false
 later_in (Some (array, index)) (Some (other, number)) = nat_lt index number && same_address other array
 
+-- the same of addresses
 abbrev pub is_later : Address → Address → Bool
 is_later e a = later_in (element_of e) (element_of a)
 
@@ -140,9 +140,3 @@ pub record StandTogether (e : Address) (ss : List Standing) : Type 0 where
 abbrev pub ElementStands : Option Address → List Standing → Type 0
 ElementStands None ss = Unit {0}
 ElementStands (Some e) ss = StandTogether e ss
-
--- there are lines, the root is no line's value, and the lines of the innermost element at the address or above it stand together
-pub record TakeHeader (q : Address) (ss : List Standing) : Type 0 where
-  pub some : ¬ (ss ≡ [])
-  pub root : list_any (holds []) ss ≡ false
-  pub element : ElementStands (innermost q) ss

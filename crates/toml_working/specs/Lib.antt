@@ -26,6 +26,10 @@ pub mod Sections
 pub mod Headers
 pub mod NextHeaders
 pub mod PuttingHeaders
+pub mod FollowingHeaders
+pub mod Following
+pub mod HeaderStanding
+pub mod AddingHeaders
 pub mod Changing
 pub mod HeldLines
 pub mod RemoveStanding

@@ -1,26 +1,20 @@
 -- A header line that is put in, by what then stands on the lines.
-use Rattle.std.specs.Prelude.{◌≡◌, ◌<◌, ◌+◌, ◌^◌, ℕ, zero, suc, Bool, true, not, List, [], ◌∷◌, ◌++◌, length, map, take, Option, Some, None, MatchOption, slice_get, string_bytes}
-use Rattle.std.specs.List.{list_any}
+use Rattle.std.specs.Prelude.{◌≡◌, ◌<◌, ◌+◌, ◌^◌, ℕ, zero, suc, Bool, true, List, [], ◌∷◌, ◌++◌, length, map, take, Option, Some, None, MatchOption, slice_get, string_bytes}
 use Rattle.std.specs.declared.alloc.Global.{Global}
 use Rattle.std.specs.declared.string.String.{String}
 use Rattle.toml_scalar.specs.Spelling.{spelled}
-use Rattle.toml_names.specs.declared.model.address.Step.{Step}
 use Rattle.toml_names.specs.declared.model.address.Step.TheVariants.{Name, Index}
 use Rattle.toml_names.specs.model.Addresses.{Address}
-use Rattle.toml_text.specs.Source.{text_of}
 use Rattle.toml_tree.specs.Spells.{EachIs}
-use Rattle.toml_layout.specs.OpenOutlines.{leaf_text}
-use Rattle.toml_layout.specs.declared.layout.Layout.TheVariants as layouts
 use Rattle.toml_layout.specs.declared.tree.Brackets.{Brackets}
 use Rattle.toml_working.specs.declared.lines.Line.{Line}
 use Rattle.toml_working.specs.declared.lines.Slot.{Slot}
 use Rattle.toml_working.specs.declared.working.Position.{Position}
-use Rattle.toml_working.specs.declared.working.Tree.{Tree}
-use Rattle.toml_working.specs.Headers.{ElementStands, TakeHeader, has_no_bytes, header_outline, header_standing, innermost, new_header, put_last, put_plainly}
+use Rattle.toml_working.specs.Headers.{ElementStands, has_no_bytes, header_outline, new_header, put_last, put_plainly}
 use Rattle.toml_working.specs.OpeningLines.{HasOutline}
 use Rattle.toml_working.specs.Placing.{lines_before, lines_from}
 use Rattle.toml_working.specs.Seeing.{line_at}
-use Rattle.toml_working.specs.Standing.{Standing, Read, AreOrdered, holds, line_standing, slot_standing, slots_standing}
+use Rattle.toml_working.specs.Standing.{Standing, Read, line_standing, slot_standing, slots_standing}
 use Rattle.toml_working.specs.Stands.{BodyKept, SlotKept, Stands}
 
 -- of the texts, one for each step, those of names
@@ -42,11 +36,11 @@ abbrev pub IsHeaderOf : Address → Brackets → List (String Global) → List �
 IsHeaderOf p brackets steps newline l = AreSpellings p (map string_bytes steps)
     → (l.address ≡ Some p) × (l.base ≡ None) × HasOutline (header_outline p brackets [] newline) l.body
 
--- it is put in at a place
-abbrev pub PutsHeader : Address → Brackets → List (String Global) → List ℕ → Read → Position → List Slot → List Slot → Bool → Type 0
-PutsHeader p brackets steps style read at old now done = AreSpellings p (map string_bytes steps) → at.slot < length old
+-- with this whitespace it is put in at a place
+abbrev pub PutsHeader : Address → Brackets → List ℕ → List (String Global) → List ℕ → Read → Position → List Slot → List Slot → Bool → Type 0
+PutsHeader p brackets ws steps style read at old now done = AreSpellings p (map string_bytes steps) → at.slot < length old
     → (text : List ℕ) → EachIs (SlotKept text read) old → EachIs (SlotKept text read) now
-    × (slots_standing read now ≡ lines_before read old at.slot at.index ++ new_header p brackets [] style ∷ lines_from read old at.slot at.index)
+    × (slots_standing read now ≡ lines_before read old at.slot at.index ++ new_header p brackets ws style ∷ lines_from read old at.slot at.index)
     × (done ≡ true)
 
 -- the first so many steps, if there are any
@@ -81,27 +75,11 @@ abbrev pub FindsEnd : List Slot → Option Position → Type 0
 FindsEnd slots result = (read : Read) → MatchOption result (slots_standing read slots ≡ []) (IsEnd read slots)
 
 -- a header line is put in at the end of the text
-abbrev pub PutsLast : Address → Brackets → List (String Global) → List ℕ → List ℕ → Read → List Slot → List Slot → Bool → Type 0
-PutsLast p brackets steps style text read old now done = AreSpellings p (map string_bytes steps) → (ss : List Standing) → Stands text read old ss → ¬ (ss ≡ [])
-    → Stands text read now (put_last (new_header p brackets []) style ss) × (done ≡ true)
+abbrev pub PutsLast : Address → Brackets → List ℕ → List (String Global) → List ℕ → List ℕ → Read → List Slot → List Slot → Bool → Type 0
+PutsLast p brackets ws steps style text read old now done = AreSpellings p (map string_bytes steps) → (ss : List Standing) → Stands text read old ss → ¬ (ss ≡ [])
+    → Stands text read now (put_last (new_header p brackets ws) style ss) × (done ≡ true)
 
 -- it is put in where it goes in layout `Plain`
 abbrev pub AddsPlainly : Option Address → Address → Brackets → List (String Global) → List ℕ → List ℕ → Read → List Slot → List Slot → Bool → Type 0
 AddsPlainly element p brackets steps style text read old now done = AreSpellings p (map string_bytes steps) → (ss : List Standing) → Stands text read old ss
     → ¬ (ss ≡ []) → ElementStands element ss → Stands text read now (put_plainly element (new_header p brackets []) style ss) × (done ≡ true)
-
--- what the header line is to stand for: right above it is `q`, the innermost element there or above is this one, and its steps are spelled so
-pub record IsAsked (q p : Address) (element : Option Address) (steps : List (String Global)) : Type 0 where
-  pub right : (s : Step) × (p ≡ q ++ s ∷ [])
-  pub inner : element ≡ innermost q
-  pub spells : AreSpellings p (map string_bytes steps)
-
--- in layout `Plain` the header line is put in where it goes; it is refused where a line's value stands right above it or holds what does
-abbrev pub PutsPlainly : Address → Option Address → Address → Brackets → List (String Global) → List ℕ → List ℕ → Read → List Slot → List Slot → Bool → Type 0
-PutsPlainly q element p brackets steps style text read old now done = IsAsked q p element steps → (ss : List Standing) → Stands text read old ss
-    → AreOrdered ss → TakeHeader q ss → Stands text read now (header_standing q p brackets style ss) × (done ≡ not (list_any (holds q) ss))
-
--- so it is of the lines of a tree
-abbrev pub TreePutsPlainly : Address → Option Address → Address → Brackets → List (String Global) → Read → Tree → Tree → Bool → Type 0
-TreePutsPlainly q element p brackets steps read old now done = old.texts.layout ≡ layouts.Plain
-    → PutsPlainly q element p brackets steps (leaf_text old.style) (text_of old.texts.source) read old.slots.items now.slots.items done

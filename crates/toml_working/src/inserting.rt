@@ -221,7 +221,7 @@ impl<'x> Tree<'x> {
         if let Layout::Follow = self.texts.layout {
             return self.put_both(before, next, header, line);
         }
-        Ok(self.put(before, next, line)? && self.put_header(before, next, header)?)
+        Ok(self.put(before, next, line)? && self.put_header(before, next, header, Leaf::EMPTY)?)
     }
 
     /// Puts both lines in by layout `Follow`: before the comment lines above the other line, and as that one begins.

@@ -258,7 +258,7 @@ impl<'x> Tree<'x> {
     }
 
     /// How many lines a slot has.
-    fn lines_in(&self, slot: usize) -> usize
+    pub(crate) fn lines_in(&self, slot: usize) -> usize
         ensures { CountsLines self.now.slots.items slot result }
     {
         match self.slots.get(slot) {

@@ -9,7 +9,8 @@ ghost use Rattle.toml_layout.specs.OpenOutlines.{leaf_text};
 ghost use Rattle.toml_working.specs.Headers.{innermost};
 ghost use Rattle.toml_working.specs.InValues.{places_of};
 ghost use Rattle.toml_working.specs.NextHeaders.{FindsNext, FindsPlace, WalksPast, WalksSlot};
-ghost use Rattle.toml_working.specs.PuttingHeaders.{AddsPlainly, FindsEnd, HasNoBytesAt, IsHeaderOf, PutsHeader, PutsLast, TreePutsPlainly, name_texts, up_to};
+ghost use Rattle.toml_working.specs.PuttingHeaders.{AddsPlainly, FindsEnd, HasNoBytesAt, IsHeaderOf, PutsHeader, PutsLast, name_texts, up_to};
+ghost use Rattle.toml_working.specs.AddingHeaders.{TreeAddsHeader, TreePutsHeader};
 ghost use Rattle.toml_working.specs.Starting.{read_of};
 ghost use Rattle.toml_working.specs.Stands.{KeepsRest};
 ghost use Rattle.toml_working.specs.declared.sections.Walk.TheVariants as walks;
@@ -59,19 +60,35 @@ enum Walk {
 
 impl<'x> Tree<'x> {
     /// Puts a header line in: before the first header line behind those of the innermost element of an array of tables in
-    /// which it is to stand, else at the end of the text. It answers `false` where a value stands right above it, or holds what stands there.
+    /// which it is to stand, else at the end of the text; by layout `Follow` behind the last section of its family. It answers `false`
+    /// where a value stands right above it, or holds what stands there.
     pub fn add_header(
         &mut self,
         before: Before<'_, 'x>,
         above: &Above,
         new: NewHeader<'_, 'x>,
     ) -> Result<bool, AllocError>
-        ensures plain { let it = new.entry in
-            IfOk result (TreePutsPlainly above.now.at above.now.element it.at.now it.brackets it.spelled.now (read_of before.entry) self.old self.new) }
+        ensures { let it = new.entry in
+            let element = above.now.element in
+            IfOk result (TreePutsHeader above.now.at element it.at.now it.brackets it.spelled.now (read_of before.entry) self.old self.new) }
     {
         if self.value_line(before, above.named, &above.at).is_some() {
             return Ok(false);
         }
+        self.add_laid_out(before, above, new)
+    }
+
+    /// Puts a header line in by the layout of the tree.
+    fn add_laid_out(
+        &mut self,
+        before: Before<'_, 'x>,
+        above: &Above,
+        new: NewHeader<'_, 'x>,
+    ) -> Result<bool, AllocError>
+        ensures { let it = new.entry in
+            let element = above.now.element in
+            IfOk result (TreeAddsHeader above.now.at element it.at.now it.brackets it.spelled.now (read_of before.entry) self.old self.new) }
+    {
         match self.texts.layout {
             Layout::Plain => self.add_plainly(before, above, new),
             Layout::Follow => self.add_beside(before, above, new),
@@ -91,8 +108,8 @@ impl<'x> Tree<'x> {
             IfOk result (AddsPlainly above.now.element it.at.now it.brackets it.spelled.now style text (read_of before.entry) self.old.slots.items self.new.slots.items) }
     {
         match self.next_header(before, above) {
-            Some(next) => self.put_header(before, next, new),
-            None => self.add_last(before, new),
+            Some(next) => self.put_header(before, next, new, Leaf::EMPTY),
+            None => self.add_last(before, new, Leaf::EMPTY),
         }
     }
 
@@ -106,42 +123,44 @@ impl<'x> Tree<'x> {
         }
     }
 
-    /// Puts a header line in before the line at a place.
+    /// Puts a header line in before the line at a place, with this whitespace to begin with.
     pub(crate) fn put_header(
         &mut self,
         before: Before<'_, 'x>,
         at: Position,
         new: NewHeader<'_, 'x>,
+        ws: Leaf<'x>,
     ) -> Result<bool, AllocError>
         ensures rest { OnOk result (KeepsRest self.old self.new) }
         ensures put { let it = new.entry in
             let style = leaf_text self.old.style in
-            IfOk result (PutsHeader it.at.now it.brackets it.spelled.now style (read_of before.entry) at self.old.slots.items self.new.slots.items) }
+            IfOk result (PutsHeader it.at.now it.brackets (leaf_text ws.entry) it.spelled.now style (read_of before.entry) at self.old.slots.items self.new.slots.items) }
     {
         let line = new.line(self.alloc(), self.style)?;
-        self.put(before, at, line)
+        self.put(before, at, line.beginning_as(ws, None))
     }
 
     /// Puts a header line in before the last line where that has no bytes, else behind it.
-    fn add_last(
+    pub(crate) fn add_last(
         &mut self,
         before: Before<'_, 'x>,
         new: NewHeader<'_, 'x>,
+        ws: Leaf<'x>,
     ) -> Result<bool, AllocError>
         ensures { let it = new.entry in
             let style = leaf_text self.old.style in
             let text = text_of self.old.texts.source in
-            IfOk result (PutsLast it.at.now it.brackets it.spelled.now style text (read_of before.entry) self.old.slots.items self.new.slots.items) }
+            IfOk result (PutsLast it.at.now it.brackets (leaf_text ws.entry) it.spelled.now style text (read_of before.entry) self.old.slots.items self.new.slots.items) }
     {
         let Some(last) = self.last_line() else {
             return Ok(false);
         };
         if self.has_no_bytes(last) {
-            return self.put_header(before, last, new);
+            return self.put_header(before, last, new, ws);
         }
         let newline = self.newline_behind(before, last)?;
         let line = new.line(self.alloc(), newline)?;
-        self.put(before, last.next(), line)
+        self.put(before, last.next(), line.beginning_as(ws, None))
     }
 
     /// The last line.

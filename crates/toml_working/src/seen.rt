@@ -1,6 +1,7 @@
 //! A line by what finds it: what it is to an address.
 ghost use Rattle.std.specs.Prelude.{◌≡◌};
 ghost use Rattle.toml_names.specs.model.Addresses.{lent};
+ghost use Rattle.toml_working.specs.FollowingHeaders.{is_header_in};
 ghost use Rattle.toml_working.specs.Headers.{begins_later};
 ghost use Rattle.toml_working.specs.InsertStanding.{is_bare};
 ghost use Rattle.toml_working.specs.LookingUp.{last_pair_from};
@@ -31,6 +32,16 @@ impl Seen<'_> {
         ensures { result ≡ is_header self.entry.base (lent self.entry.address) }
     {
         matches!((self.base, self.address), (None, Some(_)))
+    }
+
+    /// Whether it is a header line whose key has so many parts.
+    pub(crate) fn is_header_in(self, parts: usize) -> bool
+        ensures { result ≡ is_header_in parts self.entry.base (lent self.entry.address) }
+    {
+        match self.address {
+            Some(own) => self.is_header() && names_in(own.steps()) == parts,
+            None => false,
+        }
     }
 
     /// Whether it has neither a key nor a header.

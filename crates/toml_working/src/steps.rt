@@ -1,5 +1,5 @@
 //! The steps of addresses.
-ghost use Rattle.std.specs.Prelude.{◌≡◌, ◌≤◌, ◌∷◌, [], drop, option_map, set};
+ghost use Rattle.std.specs.Prelude.{◌≡◌, ◌≤◌, ◌∷◌, [], drop, is_some, option_map, set};
 ghost use Rattle.toml_names.specs.model.Addresses.{same_address};
 ghost use Rattle.toml_working.specs.Headers.{element_of};
 ghost use Rattle.toml_working.specs.RenameStanding.{names_in};
@@ -56,8 +56,10 @@ pub(crate) fn is_same_way(one: &[Step], other: &[Step]) -> bool
 }
 
 /// Whether the address is that of an element.
-pub(crate) fn is_element(at: &Address) -> bool {
-    matches!(at.steps().last(), Some(Step::Index(_)))
+pub(crate) fn is_element(at: &Address) -> bool
+    ensures { result ≡ is_some (element_of at.now) }
+{
+    element_of(at.steps()).is_some()
 }
 
 /// The array and the index of an element, if the steps lead to one.

@@ -10,6 +10,7 @@ returns-clause-put c =
     let tree = c.args.self.now in
     if_ok_both_of _ _ _ c.put.result
     (λ done puts answers.
-    header_put it.at.now it.brackets it.spelled.now (leaf_text tree.style) (read_of c.args.before) c.args.at c.in_ok-line.line tree.slots.items
-    c.put.new.self.slots.items done c.in_ok-line.ensures puts answers)
+    header_put it.at.now it.brackets (leaf_text c.args.ws) it.spelled.now (leaf_text tree.style) (read_of c.args.before) c.args.at c.in_ok-line.line
+    c.beginning_as.result tree.slots.items c.put.new.self.slots.items done c.in_ok-line.ensures c.beginning_as.ensures.address c.beginning_as.ensures.base
+    c.beginning_as.ensures.body puts answers)
     c.put.ensures.put c.put.ensures.done

@@ -1,0 +1,11 @@
+use Rattle.std.proofs.Common.{◌≡◌}
+use Rattle.std.specs.List.{list_any}
+use Rattle.toml_working.specs.FollowingHeaders.{is_filled}
+use Rattle.toml_working.specs.Placing.{lines_from}
+use Rattle.toml_working.specs.Starting.{read_of}
+use Rattle.toml_working.proofs.working.Tree.has_more.Given as goal
+
+abbrev pub invariant-loop-slot : goal.invariant-loop-slot
+invariant-loop-slot l = let read = read_of l.before in
+    list_any is_filled (lines_from read l.self.slots.items l.fn.from.slot l.fn.from.index)
+    ≡ list_any is_filled (lines_from read l.self.slots.items l.slot l.index)
