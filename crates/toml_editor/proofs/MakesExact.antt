@@ -33,7 +33,7 @@ use Rattle.toml_text.specs.Source.{text_of}
 use Rattle.toml_layout.specs.declared.texts.Texts.{Texts}
 use Rattle.toml_working.proofs.Proved.{held_inside, parent_held}
 use Rattle.toml_working.specs.HeldLines.{has_container_at}
-use Rattle.toml_working.specs.Standing.{Read, Standing, holds, standing}
+use Rattle.toml_working.specs.Standing.{Read, holds, standing}
 use Rattle.toml_working.specs.Stands.{Stands}
 use Rattle.toml_editor.specs.Steps.{AreWritten}
 use Rattle.toml_working.specs.Written.{IsWritten}

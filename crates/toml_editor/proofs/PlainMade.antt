@@ -4,7 +4,7 @@ use Rattle.toml_text.specs.Forms.{IsNewline}
 use Rattle.toml_text.specs.Source.{text_of}
 use Rattle.toml_tree.specs.Profiles.{IsOfProfile, SpellsIn}
 use Rattle.toml_tree.specs.Spells.{Spells, joined, lines_parts}
-use Rattle.toml_tree.specs.Tree.{Piece, Doc, Line}
+use Rattle.toml_tree.specs.Tree.{Piece, Doc}
 use Rattle.toml_tree.specs.declared.profile.Profile.{Profile}
 use Rattle.toml_tree.proofs.Proved.{one_tree, text_is_spelled}
 use Rattle.toml_names.specs.mentions.Mentions.{named}

@@ -8,7 +8,7 @@ use Rattle.toml_text.specs.Limit.{IsText}
 use Rattle.toml_text.specs.Source.{text_of}
 use Rattle.toml_scalar.specs.Spelling.{spelled}
 use Rattle.toml_tree.specs.Profiles.{IsValueIn, SpellsIn}
-use Rattle.toml_tree.specs.Tree.{Doc, Line, Value}
+use Rattle.toml_tree.specs.Tree.{Doc, Value}
 use Rattle.toml_tree.specs.declared.profile.Profile.{Profile}
 use Rattle.toml_names.specs.mentions.Mentions.{a_table, an_array}
 use Rattle.toml_names.specs.declared.model.address.Step.{Step}

@@ -1,6 +1,6 @@
 -- Laws of the units after the `insert` and the `remove` of a line: one block more, or one less, between two lines. The newline of a line is
 -- in no unit. All other units are as they were, with their pieces: a piece of edited lines has the place that it had before.
-use Rattle.std.specs.Prelude.{◌≡◌, ◌<◌, ◌+◌, ℕ, List, [], ◌∷◌, ◌++◌, Option, Some, None, length}
+use Rattle.std.specs.Prelude.{◌≡◌, ◌<◌, ℕ, List, [], ◌∷◌, ◌++◌, Option, Some, None, length}
 use Rattle.toml_scalar.specs.Spelling.{spelled}
 use Rattle.toml_tree.specs.Bare.{fresh}
 use Rattle.toml_tree.specs.Spells.{joined, value_parts, AreLines}

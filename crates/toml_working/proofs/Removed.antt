@@ -92,16 +92,6 @@ below_leaves texts lines p q stays then_stays l left below leaves read same kept
       after ∙ ap (λ b. stays || (b && makes q l.base l.address)) (sym below),
     )
 
-pub apart_stays : (texts : Texts) (lines : List tree.Line) (p q : Address) (stays : Bool) (l : Line) → lies_below p l.address ≡ false
-    → LeavesLines texts lines p q stays stays (l ∷ []) (l ∷ [])
-apart_stays texts lines p q stays l apart read same kept =
-    let s = line_standing read l in
-    let its = left_of_pair q (stays || not (makes q l.base l.address)) s in (
-      kept,
-      ap (λ b. cond b its (s ∷ [])) (sym apart) ∙ sym (append-nil (left_of_one p q stays s)),
-      sym (or_false stays) ∙ ap (λ b. stays || (b && makes q l.base l.address)) (sym apart),
-    )
-
 -- ---- lines behind others
 
 pub out_append : (p q : Address) (stays : Bool) (xs ys : List Standing)

@@ -133,8 +133,7 @@ impl<'x> Tree<'x> {
         slot: usize,
     ) -> Result<Parent, AllocError> {
         let address = parent_of(self.alloc(), at)?;
-        let stays =
-            address.steps().is_empty() || self.is_made_around(before, slot, &address, at);
+        let stays = address.steps().is_empty() || self.is_made_around(before, slot, &address, at);
         Ok(Parent { address, stays })
     }
 

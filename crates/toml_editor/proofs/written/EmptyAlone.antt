@@ -1,26 +1,25 @@
 -- Where the line of a value alone makes the table right above it, no other line names that table.
-use Rattle.std.proofs.Common.{◌≡◌, ◌∙◌, ◌⊎◌, inl, inr, ℕ, ◌+◌, ◌-◌, ◌==◌, ◌<◌, Bool, cond, true, false, ◌&&◌, ◌||◌, Option, Some, None, List, [], ◌∷◌, ◌++◌, length, length-append, refl, sym, ap, ap₂, subst, subst₂, append_assoc, append-nil, true≢false, arith}
+use Rattle.std.proofs.Common.{◌≡◌, ◌∙◌, inl, inr, ℕ, ◌+◌, ◌-◌, ◌==◌, ◌<◌, Bool, cond, true, false, ◌&&◌, ◌||◌, Option, Some, None, List, [], ◌∷◌, ◌++◌, length, length-append, refl, sym, ap, ap₂, subst, subst₂, append_assoc, append-nil, true≢false, arith}
 use Rattle.std.specs.Bool.{nat_lt}
 use Rattle.std.specs.List.{list_any}
 use Rattle.std.specs.Prelude.{not}
-use Rattle.std.proofs.lemmas.Bool.{and_parts}
 use Rattle.std.proofs.lemmas.Bool.Decides.{nat_tests}
 use Rattle.toml_tree.specs.Spells.{EachIs}
 use Rattle.toml_tree.specs.Tree.{Piece, Value, Expr, BlankLine, KeyValLine, TableLine, ArrayTableLine, Line}
 use Rattle.toml_names.specs.declared.model.address.Step.TheVariants.{Name, Index}
 use Rattle.toml_names.specs.model.Addresses.{Address, IsAbove, below, child, element, is_above}
 use Rattle.toml_names.specs.mentions.Alike.{AreAlike}
-use Rattle.toml_names.specs.mentions.Keys.{Key, key_names, part_name, rest_names}
+use Rattle.toml_names.specs.mentions.Keys.{Key, key_names}
 use Rattle.toml_names.specs.mentions.Mentions.{Named, a_table, count_tables, ends_table, ends_tables, entered, followed, fronts, inside, named_by, pair_named, section, value_named}
 use Rattle.toml_names.specs.declared.mentions.mention.Role.TheVariants.{Valued}
-use Rattle.toml_names.specs.reader.Names.{header_end, own_address}
+use Rattle.toml_names.specs.reader.Names.{header_end}
 use Rattle.toml_names.proofs.Proved.{above_is_above, inside_is_below}
 use Rattle.toml_layout.specs.Beginnings.{begins}
 use Rattle.toml_working.specs.RemoveStanding.{is_pair, is_value_at, makes, makes_beside}
-use Rattle.toml_working.specs.Seeing.{heads_below, is_dotted}
+use Rattle.toml_working.specs.Seeing.{heads_below}
 use Rattle.toml_working.specs.Standing.{AreOrdered, Standing, covers, covers_at, holds, is_below, leads_to, lies_below, line_stands, standing_from}
 use Rattle.toml_editor.proofs.Each.{each_append, each_back, each_front, each_weaker}
-use Rattle.toml_editor.proofs.written.Clear.{IsUnder, below-cons, same_is}
+use Rattle.toml_editor.proofs.written.Clear.{IsUnder, same_is}
 use Rattle.toml_editor.proofs.written.DocumentSections.{begins_longer}
 use Rattle.toml_editor.proofs.written.Pairwise.{PairsAre, pairs_of_all}
 use Rattle.toml_editor.proofs.written.Plain.{behind, next_alike}
@@ -86,8 +85,7 @@ module _ (q : Address) where
   pair_away s key v no_dotted no_holder =
       each_append NotThere (fronts 0 s key) _
       (each_weaker (λ m. (length s < length m.address) × (IsAbove m.address (below s key) × (m.kind ≡ a_table))) NotThere front_away (fronts 0 s key)
-      (each_both (λ m. length s < length m.address) (λ m. IsAbove m.address (below s key) × (m.kind ≡ a_table)) (fronts 0 s key) (fronts_deep s key) (fronts_above s key)))
-      (
+      (each_both (λ m. length s < length m.address) (λ m. IsAbove m.address (below s key) × (m.kind ≡ a_table)) (fronts 0 s key) (fronts_deep s key) (fronts_above s key))) (
         (λ here. true≢false (sym (subst (λ x. begins x q ≡ true) (sym here) (begins_self q)) ∙ no_holder)),
         each_weaker (λ m. IsAbove (below s key) m.address) NotThere (λ m above here. inner_away (subst (IsAbove (below s key)) here above)) (inside 0 (below s key) v)
             (inside_is_below 0 v (below s key)),

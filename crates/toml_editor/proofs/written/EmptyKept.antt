@@ -1,11 +1,11 @@
 -- What is kept where the line of a value comes to stand for the table right above it: the rules, the data.
-use Rattle.std.proofs.Common.{◌≡◌, ◌∙◌, ◌⊎◌, inl, inr, ℕ, false, List, [], ◌∷◌, ◌++◌, length, Some, refl, sym, ap, subst, append_assoc}
+use Rattle.std.proofs.Common.{◌≡◌, ◌∙◌, inl, inr, false, List, [], ◌∷◌, ◌++◌, sym, ap, subst}
 use Rattle.toml_tree.specs.Spells.{EachIs}
 use Rattle.toml_tree.specs.Tree.{Line}
 use Rattle.toml_tree.specs.declared.profile.Profile.{Profile}
 use Rattle.toml_names.specs.declared.model.address.Step.TheVariants.{Name}
 use Rattle.toml_names.specs.declared.mentions.mention.Role.TheVariants.{Dotted, Valued}
-use Rattle.toml_names.specs.model.Addresses.{Address, IsAbove, below, child}
+use Rattle.toml_names.specs.model.Addresses.{Address, IsAbove, below}
 use Rattle.toml_names.specs.model.Data.{IsDataOf, Kinds}
 use Rattle.toml_names.specs.model.Places.{IsNamed}
 use Rattle.toml_names.specs.mentions.Clear.{IsClear}
@@ -100,9 +100,9 @@ module _ (p : Address) (lines : List Line) (e : IsEmptying p lines) (gone : leav
         | inl h ↦ has_append_left P put.front (its ∷ put.back) h
         | inr (inl h) ↦ has_append_right P put.front (its ∷ put.back) (inl h)
         | inr (inr h) ↦ elim (has_parts P (value_block p put.value) put.back h) [
-            | inl x ↦ absurd (from_has (λ m. IsUnder p m.address) P ⊥ (λ m low f. clear_under p b clear (subst (IsUnder p) f.0 low)) (value_block p put.value) (block_under p put.value 0) x)
-            | inr x ↦ has_append_right P put.front (its ∷ put.back) (inr x)
-          ]
+          | inl x ↦ absurd (from_has (λ m. IsUnder p m.address) P ⊥ (λ m low f. clear_under p b clear (subst (IsUnder p) f.0 low)) (value_block p put.value) (block_under p put.value 0) x)
+          | inr x ↦ has_append_right P put.front (its ∷ put.back) (inr x)
+        ]
       ])
     where
       P : Named → Type 0

@@ -1,5 +1,5 @@
 -- The lines after a `remove` by which the line of a value comes to stand for the table right above it, by what finds them, and their units.
-use Rattle.std.proofs.Common.{◌≡◌, ◌∙◌, ℕ, suc, ◌+◌, ◌-◌, Bool, true, false, cond, Option, Some, None, List, [], ◌∷◌, ◌++◌, length, length-append, map, take, refl, sym, ap, ap₂, subst, append_assoc, append-nil, true≢false}
+use Rattle.std.proofs.Common.{◌≡◌, ◌∙◌, ℕ, ◌+◌, ◌-◌, Bool, true, false, cond, Option, Some, None, List, [], ◌∷◌, ◌++◌, length, length-append, refl, sym, ap, ap₂, subst, append_assoc, append-nil}
 use Rattle.std.specs.Prelude.{flat_map}
 use Rattle.std.proofs.lemmas.List.{take-map}
 use Rattle.toml_tree.specs.Spells.{EachIs}
@@ -14,9 +14,9 @@ use Rattle.toml_names.proofs.Proved.{pairs_leave_alike}
 use Rattle.toml_units.specs.Units.{TextUnit, line_units, units, units_from}
 use Rattle.toml_layout.specs.Emptying as layout
 use Rattle.toml_layout.specs.Outlines.{Pair}
-use Rattle.toml_layout.specs.TreeOutlines.{assign_outline, dotted_outline, line_outline}
+use Rattle.toml_layout.specs.TreeOutlines.{dotted_outline, line_outline}
 use Rattle.toml_working.specs.Removing.{assign_cut, emptied_line, empty_table, lines_left}
-use Rattle.toml_working.specs.RemoveStanding.{standing_emptied, is_pair, leaves_parent, left_of_pair, removed_one}
+use Rattle.toml_working.specs.RemoveStanding.{standing_emptied, is_pair, left_of_pair, removed_one}
 use Rattle.toml_layout.specs.Holders.{parent_of}
 use Rattle.toml_working.specs.Standing.{AreOrdered, Standing, line_stands, standing, standing_from}
 use Rattle.toml_editor.specs.UnitBlocks.{BeginWithLine, pair_line_units}

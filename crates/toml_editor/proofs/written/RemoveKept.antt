@@ -187,11 +187,11 @@ data_removed profile table name lines old after there keeps is is' =
           ap after go.0 ∙ elim (has_new (named_plain lines') (line_block p s key v) (named_plain lines) put (F p v b k) fact) [
             | inl w ↦ (is' b k).1 (any_of_has _ (named lines') (plain_has lines' (F p v b k) w))
             | inr w ↦ elim (has_parts (F p v b k) (fronts 0 s key) (value_block p v) w) [
-                | inl f ↦ tables_stay table name lines after there keeps is' b k ((is b k).0 have)
-                    (from_has (λ m. IsAbove m.address (below s key) × (m.kind ≡ a_table)) (F p v b k) (IsAbove b p)
-                    (λ m above here. subst₂ IsAbove here.0 (sym at) above.0) (fronts 0 s key) (fronts_above s key) f)
-                | inr x ↦ absurd (from_has (λ m. IsUnder p m.address) (F p v b k) ⊥ (λ m under f. clear_under p b go.1 (subst (IsUnder p) f.0 under)) (value_block p v) (block_under p v 0) x)
-              ]
+              | inl f ↦ tables_stay table name lines after there keeps is' b k ((is b k).0 have)
+                  (from_has (λ m. IsAbove m.address (below s key) × (m.kind ≡ a_table)) (F p v b k) (IsAbove b p)
+                  (λ m above here. subst₂ IsAbove here.0 (sym at) above.0) (fronts 0 s key) (fronts_above s key) f)
+              | inr x ↦ absurd (from_has (λ m. IsUnder p m.address) (F p v b k) ⊥ (λ m under f. clear_under p b go.1 (subst (IsUnder p) f.0 under)) (value_block p v) (block_under p v 0) x)
+            ]
           ];
       placed = λ r k have. cc;
       no_other = λ a k have.

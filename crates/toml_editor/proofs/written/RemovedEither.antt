@@ -3,20 +3,18 @@ use Rattle.std.proofs.Common.{◌≡◌, ◌∙◌, Bool, true, false, Some, Lis
 use Rattle.std.specs.Prelude.{flat_map}
 use Rattle.toml_tree.specs.Spells.{AreLines, EachIs}
 use Rattle.toml_tree.specs.Tree.{Line}
-use Rattle.toml_names.specs.declared.model.address.Step.TheVariants.{Name}
 use Rattle.toml_names.specs.mentions.Clear.{IsClear}
 use Rattle.toml_names.specs.mentions.Mentions.{fronts, named, section, table_at, value_named}
 use Rattle.toml_names.specs.declared.mentions.mention.Role.TheVariants.{Dotted, Valued}
 use Rattle.toml_names.specs.mentions.Rules.{KeepsRules}
 use Rattle.toml_names.specs.model.Addresses.{Address, below, child}
-use Rattle.toml_names.specs.model.Data.{IsDataOf, Kinds}
+use Rattle.toml_names.specs.model.Data.{IsDataOf}
 use Rattle.toml_names.specs.reader.Names.{AreGood}
-use Rattle.toml_tree.specs.declared.profile.Profile.{Profile}
 use Rattle.toml_edits.specs.After.{IsAfter}
 use Rattle.toml_edits.specs.Edits.{remove}
 use Rattle.toml_units.specs.Units.{TextUnit, units}
 use Rattle.toml_editor.specs.Blocks.{IsPut, named_plain, value_block}
-use Rattle.toml_editor.specs.RemoveLaws.{EmptyNames, LeavesTable, RemoveData, RemoveGood, RemoveKeepsLines, RemoveNames, TakesTable}
+use Rattle.toml_editor.specs.RemoveLaws.{EmptyNames, RemoveData, RemoveGood, RemoveKeepsLines, RemoveNames}
 use Rattle.toml_editor.specs.StandingLaws.{RemoveStands}
 use Rattle.toml_editor.specs.UnitBlocks.{EmptyUnits, IsBlockTaken, RemoveUnits, pair_line_units}
 use Rattle.toml_working.specs.Removing.{empty_table, lines_left, remove_lines}
@@ -24,11 +22,11 @@ use Rattle.toml_working.specs.RemoveStanding.{leaves_parent, removed_one, remove
 use Rattle.toml_layout.specs.Holders.{parent_of}
 use Rattle.toml_working.specs.Standing.{standing}
 use Rattle.toml_working.specs.Written.{HasLine}
-use Rattle.toml_editor.proofs.written.EmptiedLine.{IsEmptying, emptying, right_above}
+use Rattle.toml_editor.proofs.written.EmptiedLine.{emptying, right_above}
 use Rattle.toml_editor.proofs.written.EmptyKept.{empty_clear, empty_data, empty_good}
 use Rattle.toml_editor.proofs.written.EmptyNamed.{empty_named}
 use Rattle.toml_editor.proofs.written.EmptyStands.{AreEmptied, empty_stands, units_emptied}
-use Rattle.toml_editor.proofs.written.RemoveKept.{left_forms, taken_clear, taken_data, taken_good}
+use Rattle.toml_editor.proofs.written.RemoveKept.{taken_clear, taken_data, taken_good}
 use Rattle.toml_editor.proofs.written.RemoveNamed.{line_parts, lines_part, taken_names}
 use Rattle.toml_editor.proofs.written.RemoveStanding.{taken_stands}
 use Rattle.toml_editor.proofs.written.UnitsTaken.{lines_taken}

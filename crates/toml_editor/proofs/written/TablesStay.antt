@@ -15,7 +15,7 @@ use Rattle.toml_names.specs.declared.model.address.Step.TheVariants.{Name}
 use Rattle.toml_names.specs.model.Addresses.{Address, IsAbove, below, child, is_above, same_address}
 use Rattle.toml_names.specs.model.Data.{Kinds, IsClosed, IsDataOf}
 use Rattle.toml_names.specs.mentions.Keys.{Key, key_names, part_name, rest_names}
-use Rattle.toml_names.specs.mentions.Mentions.{Kind, Named, a_table, fronts, named, root, section}
+use Rattle.toml_names.specs.mentions.Mentions.{Kind, Named, a_table, fronts, named, section}
 use Rattle.toml_names.specs.mentions.Rules.{KeepsRules}
 use Rattle.toml_names.specs.reader.Names.{own_address}
 use Rattle.toml_names.proofs.Proved.{above_is_above, lines_are_closed, own_address_has_fact, same_step-self}

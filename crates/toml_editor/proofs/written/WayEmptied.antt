@@ -1,5 +1,5 @@
 -- The way of a `remove` by which the line of a value comes to stand for the table right above it.
-use Rattle.std.proofs.Common.{◌≡◌, ◌∙◌, ◌⊎◌, inl, inr, ◌<◌, ◌+◌, ℕ, true, false, cond, Option, Some, None, List, [], ◌∷◌, ◌++◌, map, length, refl, sym, ap, ap₂, subst, subst₂, true≢false, arith, append-nil}
+use Rattle.std.proofs.Common.{◌≡◌, ◌∙◌, inl, inr, ◌+◌, ℕ, cond, Option, Some, None, List, [], ◌∷◌, ◌++◌, map, length, refl, sym, ap, ap₂, subst, subst₂, true≢false, arith}
 use Rattle.std.specs.Prelude.{slice_get}
 use Rattle.toml_tree.specs.Spells.{EachIs}
 use Rattle.toml_tree.specs.Tree.{Piece, Line}
@@ -12,13 +12,12 @@ use Rattle.toml_units.specs.Units.{TextUnit, comment_units, inside, units}
 use Rattle.toml_checker.specs.Comments.{texts}
 use Rattle.toml_checker.specs.Plain.{Site, site}
 use Rattle.toml_editor.specs.ChangedUnits.{LiesInValue}
-use Rattle.toml_editor.specs.UnitBlocks.{BeginWithLine, pair_line_units}
-use Rattle.toml_working.specs.Removing.{empty_table}
+use Rattle.toml_editor.specs.UnitBlocks.{pair_line_units}
 use Rattle.toml_editor.proofs.Each.{each_back, each_front}
 use Rattle.toml_editor.proofs.written.EmptyStands.{AreEmptied}
 use Rattle.toml_editor.proofs.written.UnitsGone.{inner_line, value_in}
-use Rattle.toml_editor.proofs.written.Way.{Step, old, new, olds, news, one_line}
-use Rattle.toml_editor.proofs.written.WayBlock.{fits_append, inside_lines, line_after, lines_append, new_adds, new_news, new_olds, news_append, old_adds, old_news, old_olds, olds_append, added_append}
+use Rattle.toml_editor.proofs.written.Way.{Step, old, new, olds, news}
+use Rattle.toml_editor.proofs.written.WayBlock.{fits_append, inside_lines, line_after, lines_append, news_append, old_adds, old_news, old_olds, olds_append, added_append}
 use Rattle.toml_editor.proofs.written.WayComments.{added, comments}
 use Rattle.toml_editor.proofs.written.WayFits.{Fits, newlines}
 use Rattle.toml_editor.proofs.written.WayKeeps.{Keeps, next_after}
@@ -175,7 +174,7 @@ module _ (table : Address) (name : List ℕ) (lines edited : List Line) (same : 
         let mid = next_after next (map old block) in
         keeps_append c before after head goes None None 0 0
         (same_keeps c before after h.front (far_fixed table name before after h.front front_far) None None (inl refl) 0 0
-        (λ x low. record { newline = inl (same_at (0 + x)); last = λ at. let f : ⊥ = omega (arith, low, at, new_total) in absurd f; })
+        (λ x low. record { newline = inl (same_at (0 + x)); last = λ at. let f : ⊥ = omega (arith, low, at, new_total) in absurd f })
         (inl (λ x low at. let f : ⊥ = omega (arith, low, at, old_total) in absurd f)))
         (keeps_append c before after (map old block) last line next (0 + lines_in (olds head)) (0 + lines_in (news head))
         (old_keeps c before after block line next (0 + lines_in (olds head)) (0 + lines_in (news head)))
@@ -187,7 +186,7 @@ module _ (table : Address) (name : List ℕ) (lines edited : List Line) (same : 
         (let e : n + 1 ≡ ((0 + lines_in (news head)) + lines_in (news (map old block))) + 1 = omega (arith, news_head, news_block) in e)
         (same_keeps c before after h.back (far_fixed table name before after h.back back_far) (line_after behind (new its ∷ [])) (next_after mid (new its ∷ []))
         (inr h.begins) (n + 1) (n + 1)
-        (λ x low. record { newline = inl (same_at ((n + 1) + x)); last = λ at. omega (arith, at, old_total, new_total); })
+        (λ x low. record { newline = inl (same_at ((n + 1) + x)); last = λ at. omega (arith, at, old_total, new_total) })
         (inl (λ x low at. omega (arith, at, old_total, new_total)))))))
 
     pub emptied_way : HasWay (remove p ∷ []) ([] ∷ []) lines edited
