@@ -1,11 +1,12 @@
 -- A header line at the end of a text by layout `Follow`.
 use Rattle.std.proofs.Common.{◌≡◌, ◌∙◌, ◌↔◌, ℕ, suc, ◌+◌, ◌-◌, ◌^◌, ◌<◌, ◌==◌, Bool, true, false, ◌&&◌, ◌||◌, cond, not, List, [], ◌∷◌, ◌++◌, length, take, drop, Some, None, IsTrue, refl, ap, ap₂, sym, subst, arith, append_assoc, append-nil, slice_range, true≢false}
-use Rattle.std.specs.Prelude.{MatchOption, slice_index}
+use Rattle.std.specs.Prelude.{MatchOption, is_some, slice_index}
 use Rattle.std.specs.List.{list_any}
 use Rattle.std.specs.Str.{bytes_eq}
 use Rattle.std.specs.declared.alloc.Global.{Global}
 use Rattle.std.specs.declared.string.String.{String}
 use Rattle.std.proofs.lemmas.Bool.{and_parts, eqb-true}
+use Rattle.std.proofs.Math.Bool.{or-false, or-true}
 use Rattle.std.proofs.lemmas.Option.{slice_get_within}
 use Rattle.toml_names.specs.model.Addresses.{Address}
 use Rattle.toml_text.specs.Source.{IsHeld, text_of}
@@ -18,15 +19,15 @@ use Rattle.toml_working.specs.declared.lines.Line.{Line}
 use Rattle.toml_working.specs.declared.lines.Slot.{Slot}
 use Rattle.toml_working.specs.declared.working.Position.{Position}
 use Rattle.toml_working.specs.declared.working.Tree.{Tree}
-use Rattle.toml_working.specs.Following.{BeginsHeader, FindsBeside, IsBehindAll, IsLastThat, PutsAtEnd, PutsBeside, PutsBlank, TellsAt, TellsClose, TellsFilled, TellsParting, TreeFollows, may_part, put_behind}
-use Rattle.toml_working.specs.FollowingHeaders.{behind_family, blank_line, but_last, ends_empty, ends_filled, ends_in_newline, family, header_behind, header_ws, is_close, is_entry, is_entry_line, is_filled, is_header_line, is_no_comment, last_that, or_at_end, parts_end}
-use Rattle.toml_working.specs.Headers.{has_no_bytes, new_header, put_after, put_last}
+use Rattle.toml_working.specs.Following.{BeginsHeader, FindsBeside, IsBehindAll, IsLastThat, PutsAtEnd, PutsBeside, PutsBlank, TellsAt, TellsClose, TellsFilled, TellsBlankDue, TreeFollows, may_write_blank, put_behind}
+use Rattle.toml_working.specs.FollowingHeaders.{behind_family, blank_line, but_last, ends_empty, ends_filled, ends_in_newline, family, header_behind, header_ws, is_close, is_entry, is_entry_line, is_filled, is_header_line, is_no_comment, last_that, or_at_end, wants_blank}
+use Rattle.toml_working.specs.Headers.{has_no_bytes, new_header, put_after, put_at_text_end}
 use Rattle.toml_working.specs.OpeningLines.{HasOutline, alone}
 use Rattle.toml_working.specs.Placing.{lines_before, lines_from}
 use Rattle.toml_working.specs.Putting.{PutsSlots}
 use Rattle.toml_working.specs.PuttingHeaders.{HasNoBytesAt, IsEnd, PutsHeader, PutsLast}
 use Rattle.toml_working.specs.Standing.{Standing, Read, body_outline, line_standing, slots_standing}
-use Rattle.toml_working.specs.Stands.{KeepsRest, Stands}
+use Rattle.toml_working.specs.Stands.{KeepsRest, KeepsTexts, Stands}
 use Rattle.toml_working.proofs.AtPlace.{slot_of}
 use Rattle.toml_working.proofs.WentUp.{both_no, last_none, last_split}
 use Rattle.toml_working.proofs.HeaderPut.{last_put}
@@ -56,11 +57,11 @@ none_at_all (s ∷ ss) h = absurd (true≢false h)
 
 any_there : (f : Standing → Bool) (front : List Standing) (s : Standing) (between : List Standing) → f s ≡ true → list_any f (front ++ s ∷ between) ≡ true
 any_there f [] s between so = ap (λ b. b || list_any f between) so
-any_there f (x ∷ front) s between so = ap (λ b. f x || b) (any_there f front s between so) ∙ or_true (f x)
+any_there f (x ∷ front) s between so = ap (λ b. f x || b) (any_there f front s between so) ∙ or-true (f x)
   where
-    or_true : (b : Bool) → (b || true) ≡ true
-    or_true true = refl
-    or_true false = refl
+    or-true : (b : Bool) → (b || true) ≡ true
+    or-true true = refl
+    or-true false = refl
 
 -- ---- the last section, and what stands above it
 
@@ -127,13 +128,13 @@ module _ (text : List ℕ) (read : Read) (slots : List Slot) (last : Position) (
   pub ends_so : ends_empty ss ≡ b
   ends_so = ap ends_empty split ∙ last_empty end.line front ∙ sym (tells text read stands.kept end.line end.there)
 
-  pub parting : (filled close : Bool) → TellsFilled read slots last filled → TellsClose read slots last close → (may && parts_end ss) ≡ (may && (b && (filled && not close)))
+  pub parting : (filled close : Bool) → TellsFilled read slots last filled → TellsClose read slots last close → (may && wants_blank ss) ≡ (may && (b && (filled && not close)))
   parting filled close is_filled is_close_so =
       let left : but_last ss ≡ front = ap but_last split ∙ last_left end.line front in
       ap₂ (λ x y. may && (x && y)) ends_so
       (ap₂ (λ x y. x && not y) (ap ends_filled left ∙ sym is_filled) (ap (is_close []) left ∙ sym is_close_so))
 
-  pub no_parting : b ≡ false → false ≡ (may && parts_end ss)
+  pub no_parting : b ≡ false → false ≡ (may && wants_blank ss)
   no_parting is = sym (ap (λ x. may && (x && (ends_filled (but_last ss) && not (is_close [] (but_last ss))))) (ends_so ∙ is) ∙ never may)
     where
       never : (x : Bool) → (x && false) ≡ false
@@ -217,14 +218,14 @@ blank_put style text read last l old now done end address base (n, is, outlined)
         kept = kept;
         are =
             are ∙ ap₂ (λ x r. front ++ x ∷ r) made end.from
-            ∙ sym (ap (put_last blank_line style) split ∙ last_put blank_line style end.line front
+            ∙ sym (ap (put_at_text_end blank_line style) split ∙ last_put blank_line style end.line front
             ∙ ap (λ b. front ++ cond b (blank_line style ∷ end.line ∷ []) (put_after blank_line style end.line end.line.outline.newline)) none);
       },
       answers low,
     )
 
 -- lines with one more at the end are not none
-put_some : (new : List ℕ → Standing) (style : List ℕ) (ss : List Standing) → (ss ≡ [] → ⊥) → put_last new style ss ≡ [] → ⊥
+put_some : (new : List ℕ → Standing) (style : List ℕ) (ss : List Standing) → (ss ≡ [] → ⊥) → put_at_text_end new style ss ≡ [] → ⊥
 put_some new style [] some h = some refl
 put_some new style (s ∷ []) some h = by (has_no_bytes s.outline) s.outline.newline h
   where
@@ -249,55 +250,63 @@ module _ (q p : Address) (brackets : Brackets) (steps : List (String Global)) (r
 
   -- at the end, without a blank line
   pub end_put : (now : Tree) (end : Position) (ws : Leaf) (parts done : Bool) → IsBehindAll read old.slots.items end → BeginsHeader p read old.slots.items end ws
-      → TellsParting read old parts → parts ≡ false → PutsLast p brackets (leaf_text ws) steps style text read old.slots.items now.slots.items done
-      → PutsAtEnd p brackets steps read old now done
-  end_put now end ws parts done behind begins tells is puts spells ss stands some =
-      let (put, answer) = puts spells ss stands some in (
+      → TellsBlankDue read old parts → parts ≡ false → KeepsRest old now
+      → PutsLast p brackets (leaf_text ws) steps style text read old.slots.items now.slots.items done → PutsAtEnd p brackets steps read old now done
+  end_put now end ws parts done behind begins tells is keeps puts spells ss stands some =
+      let (put, answer) = puts spells ss stands some in
+      let none : (may_write_blank old && wants_blank ss) ≡ false = sym (tells ss stands) ∙ is in (
         subst (Stands text read now.slots.items)
-            (ap₂ (λ w b. put_last (new_header p brackets w) style (cond b (put_last blank_line style ss) ss)) (ws_is end ws ss behind begins stands.are)
-            (sym (sym (tells ss stands) ∙ is)))
+            (ap₂ (λ w b. put_at_text_end (new_header p brackets w) style (cond b (put_at_text_end blank_line style ss) ss)) (ws_is end ws ss behind begins stands.are)
+            (sym none))
             put,
         answer,
+        keeps.blank ∙ sym (or-false old.has_written_blank) ∙ ap (λ b. old.has_written_blank || b) (sym none),
       )
 
   -- and behind one
   pub parted_put : (mid now : Tree) (end : Position) (ws : Leaf) (parts blank done : Bool) → IsBehindAll read old.slots.items end → BeginsHeader p read old.slots.items end ws
-      → TellsParting read old parts → parts ≡ true → KeepsRest old mid → PutsBlank style text read old.slots.items mid.slots.items blank
+      → TellsBlankDue read old parts → parts ≡ true → KeepsTexts old mid → (blank ≡ true → mid.has_written_blank ≡ true)
+      → PutsBlank style text read old.slots.items mid.slots.items blank → KeepsRest mid now
       → PutsLast p brackets (leaf_text ws) steps (leaf_text mid.style) (text_of mid.texts.source) read mid.slots.items now.slots.items done
       → PutsAtEnd p brackets steps read old now done
-  parted_put mid now end ws parts blank done behind begins tells is rest puts_blank puts spells ss stands some =
-      let parted : (may_part old && parts_end ss) ≡ true = sym (tells ss stands) ∙ is in
-      let empty : ends_empty ss ≡ true = (and_parts (ends_empty ss) _ (and_parts (may_part old) (parts_end ss) parted).1).0 in
+  parted_put mid now end ws parts blank done behind begins tells is rest wrote puts_blank keeps puts spells ss stands some =
+      let parted : (may_write_blank old && wants_blank ss) ≡ true = sym (tells ss stands) ∙ is in
+      let empty : ends_empty ss ≡ true = (and_parts (ends_empty ss) _ (and_parts (may_write_blank old) (wants_blank ss) parted).1).0 in
       let (blank_put, told) = puts_blank ss stands some empty in
       let last = subst (λ s. PutsLast p brackets (leaf_text ws) steps s text read mid.slots.items now.slots.items done) (ap leaf_text rest.style)
       (subst (λ x. PutsLast p brackets (leaf_text ws) steps (leaf_text mid.style) (text_of x.source) read mid.slots.items now.slots.items done) rest.texts puts) in
-      let (put, answer) = last spells (put_last blank_line style ss) blank_put (put_some blank_line style ss some) in (
+      let (put, answer) = last spells (put_at_text_end blank_line style ss) blank_put (put_some blank_line style ss some) in (
         subst (Stands text read now.slots.items)
-            (ap₂ (λ w b. put_last (new_header p brackets w) style (cond b (put_last blank_line style ss) ss)) (ws_is end ws ss behind begins stands.are) (sym parted))
+            (ap₂ (λ w b. put_at_text_end (new_header p brackets w) style (cond b (put_at_text_end blank_line style ss) ss)) (ws_is end ws ss behind begins stands.are) (sym parted))
             put,
         answer,
+        keeps.blank ∙ wrote told ∙ sym (or-true old.has_written_blank) ∙ ap (λ b. old.has_written_blank || b) (sym parted),
       )
 
   -- the blank line is always put in
-  pub never_left : (mid now : Tree) (parts blank done : Bool) → TellsParting read old parts → parts ≡ true → PutsBlank style text read old.slots.items mid.slots.items blank
+  pub never_left : (mid now : Tree) (parts blank done : Bool) → TellsBlankDue read old parts → parts ≡ true → PutsBlank style text read old.slots.items mid.slots.items blank
       → blank ≡ false → PutsAtEnd p brackets steps read old now done
   never_left mid now parts blank done tells is puts_blank no_blank spells ss stands some =
-      let parted : (may_part old && parts_end ss) ≡ true = sym (tells ss stands) ∙ is in
-      let empty : ends_empty ss ≡ true = (and_parts (ends_empty ss) _ (and_parts (may_part old) (parts_end ss) parted).1).0 in
+      let parted : (may_write_blank old && wants_blank ss) ≡ true = sym (tells ss stands) ∙ is in
+      let empty : ends_empty ss ≡ true = (and_parts (ends_empty ss) _ (and_parts (may_write_blank old) (wants_blank ss) parted).1).0 in
       absurd (true≢false (sym (puts_blank ss stands some empty).1 ∙ no_blank))
 
   -- behind the last section of the family
   pub follows_beside : (now : Tree) (behind : Position) (done : Bool) → FindsBeside q p read old.slots.items (Some behind)
-      → PutsBeside p brackets steps style read behind old.slots.items now.slots.items done → TreeFollows q p brackets steps read old now done
-  follows_beside now behind done finds puts own spells ss stands some =
+      → KeepsRest old now → PutsBeside p brackets steps style read behind old.slots.items now.slots.items done
+      → TreeFollows q p brackets steps read old now done
+  follows_beside now behind done finds keeps puts own spells ss stands some =
       let (is_line, found) = finds own in
       let (kept, are, answer) = puts spells is_line text stands.kept in
-      let new = λ (front : List Standing). header_behind p brackets front style in (
+      let new = λ (front : List Standing). header_behind p brackets front style in
+      let there = ap (λ x. behind_family (family q p x) new x) (sym stands.are) ∙ found new in (
         record {
           kept = kept;
-          are = are ∙ sym (ap (or_at_end p brackets style (may_part old) ss) (ap (λ x. behind_family (family q p x) new x) (sym stands.are) ∙ found new));
+          are = are ∙ sym (ap (or_at_end p brackets style (may_write_blank old) ss) there);
         },
         answer,
+        keeps.blank ∙ sym (or-false old.has_written_blank)
+        ∙ ap (λ o. old.has_written_blank || (not (is_some o) && (may_write_blank old && wants_blank ss))) (sym there),
       )
 
   -- or at the end
@@ -306,8 +315,9 @@ module _ (q p : Address) (brackets : Brackets) (steps : List (String Global)) (r
   follows_at_end now done finds puts own spells ss stands some =
       let (is_line, found) = finds own in
       let new = λ (front : List Standing). header_behind p brackets front style in
-      let (put, answer) = puts spells ss stands some in (
-        subst (Stands text read now.slots.items)
-            (sym (ap (or_at_end p brackets style (may_part old) ss) (ap (λ x. behind_family (family q p x) new x) (sym stands.are) ∙ found new))) put,
+      let there = ap (λ x. behind_family (family q p x) new x) (sym stands.are) ∙ found new in
+      let (put, answer, wrote) = puts spells ss stands some in (
+        subst (Stands text read now.slots.items) (sym (ap (or_at_end p brackets style (may_write_blank old) ss) there)) put,
         answer,
+        wrote ∙ ap (λ o. old.has_written_blank || (not (is_some o) && (may_write_blank old && wants_blank ss))) (sym there),
       )

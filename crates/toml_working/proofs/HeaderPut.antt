@@ -11,7 +11,7 @@ use Rattle.toml_layout.specs.declared.tree.Brackets.{Brackets}
 use Rattle.toml_working.specs.declared.lines.Line.{Line}
 use Rattle.toml_working.specs.declared.lines.Slot.{Slot}
 use Rattle.toml_working.specs.declared.working.Position.{Position}
-use Rattle.toml_working.specs.Headers.{ElementStands, before_next, has_no_bytes, header_outline, new_header, or_last, put_after, put_last}
+use Rattle.toml_working.specs.Headers.{ElementStands, before_next, has_no_bytes, header_outline, new_header, or_last, put_after, put_at_text_end}
 use Rattle.toml_working.specs.Looking.{BodyBegins}
 use Rattle.toml_working.specs.NextHeaders.{FindsPlace}
 use Rattle.toml_working.specs.OpeningLines.{HasOutline}
@@ -82,7 +82,7 @@ module _ (read : Read) (slots : List Slot) (here count : ℕ) (slot : Slot) (som
       line_within (s ∷ ss) (suc n) low = line_within ss n (omega (arith, low))
 
 pub last_put : (new : List ℕ → Standing) (style : List ℕ) (s : Standing) (front : List Standing)
-    → put_last new style (front ++ s ∷ []) ≡ front ++ cond (has_no_bytes s.outline) (new style ∷ s ∷ []) (put_after new style s s.outline.newline)
+    → put_at_text_end new style (front ++ s ∷ []) ≡ front ++ cond (has_no_bytes s.outline) (new style ∷ s ∷ []) (put_after new style s s.outline.newline)
 last_put new style s [] = refl
 last_put new style s (x ∷ []) = refl
 last_put new style s (x ∷ y ∷ front) = ap (λ r. x ∷ r) (last_put new style s (y ∷ front))
@@ -115,7 +115,7 @@ module _ (p : Address) (brackets : Brackets) (ws : List ℕ) (steps : List (Stri
           are =
               are ∙ ap (λ r. front ++ new style ∷ r) end.from
               ∙ sym (ap (λ c. front ++ cond c (new style ∷ end.line ∷ []) (put_after new style end.line end.line.outline.newline)) empty)
-              ∙ sym (last_put new style end.line front) ∙ ap (put_last new style) (sym (end_split old at end) ∙ stands.are);
+              ∙ sym (last_put new style end.line front) ∙ ap (put_at_text_end new style) (sym (end_split old at end) ∙ stands.are);
         },
         answer,
       )
@@ -151,7 +151,7 @@ module _ (p : Address) (brackets : Brackets) (ws : List ℕ) (steps : List (Stri
               ∙ ap (λ x. front ++ (ended_before style s s.outline.newline ∷ x ∷ [])) made
               ∙ ap (λ x. front ++ x) (sym (put_after_is new style s s.outline.newline))
               ∙ sym (ap (λ c. front ++ cond c (new style ∷ s ∷ []) (put_after new style s s.outline.newline)) full)
-              ∙ sym (last_put new style s front) ∙ ap (put_last new style) (sym (end_split old at end) ∙ stands.are);
+              ∙ sym (last_put new style s front) ∙ ap (put_at_text_end new style) (sym (end_split old at end) ∙ stands.are);
         },
         answers within,
       )

@@ -12,7 +12,7 @@ use Rattle.toml_working.specs.declared.lines.Sought.TheVariants as sought
 use Rattle.toml_working.specs.declared.sections.Walk.{Walk}
 use Rattle.toml_working.specs.declared.sections.Walk.TheVariants as walks
 use Rattle.toml_working.specs.declared.working.Position.{Position}
-use Rattle.toml_working.specs.Headers.{StandTogether, before_header, before_next, begins_later, has_below}
+use Rattle.toml_working.specs.Headers.{StandInTurn, before_header, before_next, begins_later, has_below}
 use Rattle.toml_working.specs.NextHeaders.{IsNext, Walked, WalksPast}
 use Rattle.toml_working.specs.Placing.{IsNoHeader, is_header, lines_before, lines_from}
 use Rattle.toml_working.specs.Seeing.{IsSoughtAt, found, heads_below, is_sought_line, line_at, seen}
@@ -213,7 +213,7 @@ module _ (e : Address) (read : Read) (slots : List Slot) (all : List Standing) w
   }
 
   -- and behind them
-  met : (s : Standing) (rest : List Standing) (next : Position) (ends : Bool) (walk : Walk) → begins_later e s.base s.address ≡ ends → StandTogether e all
+  met : (s : Standing) (rest : List Standing) (next : Position) (ends : Bool) (walk : Walk) → begins_later e s.base s.address ≡ ends → StandInTurn e all
       → (front : List Standing) → all ≡ front ++ s ∷ rest → IsNext e read slots all rest next
       → (ends ≡ true → walk ≡ walks.Ended next) → (ends ≡ false → walk ≡ walks.Behind next) → Walked e read slots all rest walk
   met s rest next true walk later together front is found ended behind =
@@ -221,7 +221,7 @@ module _ (e : Address) (read : Read) (slots : List Slot) (all : List Standing) w
   met s rest next false walk later together front is found ended behind = subst (Walked e read slots all rest) (sym (behind refl)) found
 
   pub past_within : (s : Standing) (rest : List Standing) (at : Position) (ends : Bool) (walk : Walk) → is_header s.base s.address ≡ true
-      → lies_below e s.address ≡ false → begins_later e s.base s.address ≡ ends → StandTogether e all → line_at read slots at ≡ Some s
+      → lies_below e s.address ≡ false → begins_later e s.base s.address ≡ ends → StandInTurn e all → line_at read slots at ≡ Some s
       → lines_from read slots at.slot at.index ≡ s ∷ rest → Walked e read slots all (s ∷ rest) walks.Within
       → (ends ≡ true → walk ≡ walks.Ended at) → (ends ≡ false → walk ≡ walks.Behind at) → Walked e read slots all rest walk
   past_within s rest at ends walk header other later together there from h ended behind =
@@ -242,7 +242,7 @@ module _ (e : Address) (read : Read) (slots : List Slot) (all : List Standing) w
       }) ended behind
 
   pub past_behind : (s : Standing) (rest : List Standing) (next : Position) (ends : Bool) (walk : Walk) → lies_below e s.address ≡ false
-      → begins_later e s.base s.address ≡ ends → StandTogether e all → Walked e read slots all (s ∷ rest) (walks.Behind next)
+      → begins_later e s.base s.address ≡ ends → StandInTurn e all → Walked e read slots all (s ∷ rest) (walks.Behind next)
       → (ends ≡ true → walk ≡ walks.Ended next) → (ends ≡ false → walk ≡ walks.Behind next) → Walked e read slots all rest walk
   past_behind s rest next ends walk other later together h ended behind =
       let (front, is) = passed_so (s ∷ rest) (walks.Behind next) h in
@@ -310,7 +310,7 @@ module _ (e : Address) (read : Read) (slots : List Slot) where
   pub first_none : has_below e (lines_before read slots 0 0) ≡ false
   first_none = ap (has_below e) (before_first read slots)
 
-  pub first_at : (at : Position) → IsSoughtAt sought.Header e read slots at → StandTogether e (slots_standing read slots)
+  pub first_at : (at : Position) → IsSoughtAt sought.Header e read slots at → StandInTurn e (slots_standing read slots)
       → has_below e (lines_before read slots at.slot 0) ≡ false
   first_at at found together =
       let (h, there, heads) = header_here e read slots at found in
@@ -326,7 +326,7 @@ module _ (e : Address) (read : Read) (slots : List Slot) where
 module _ (e : Address) (read : Read) (slots : List Slot) (k : ℕ) (slot : Slot) (there : slice_get slots k ≡ Some slot) (i : ℕ) (r : Option Seen) (x : Seen)
     (same : option_map seen r ≡ option_map found (slice_get (slot_standing read slot) i)) (is : r ≡ Some x) (all : List Standing) where
   -- a header is passed
-  pub header_passed : (walk next : Walk) → is_header (seen x).base (seen x).address ≡ true → StandTogether e all
+  pub header_passed : (walk next : Walk) → is_header (seen x).base (seen x).address ≡ true → StandInTurn e all
       → WalksPast e x (record { slot = k; index = i }) walk next → Walked e read slots all (lines_from read slots k i) walk
       → Walked e read slots all (lines_from read slots k (i + 1)) next
   header_passed walk next header together past walked =

@@ -1,5 +1,5 @@
 -- A header line that is put in by layout `Follow`: the lines that are looked for, and what then stands on the lines.
-use Rattle.std.specs.Prelude.{◌≡◌, ◌<◌, ◌+◌, ◌^◌, ◌&&◌, ℕ, Bool, true, false, not, List, [], ◌∷◌, ◌++◌, map, Option, Some, None, MatchOption, IfSome, is_some, option_map, string_bytes, if◌then◌else◌}
+use Rattle.std.specs.Prelude.{◌≡◌, ◌<◌, ◌+◌, ◌^◌, ◌&&◌, ℕ, Bool, true, false, not, ◌||◌, List, [], ◌∷◌, ◌++◌, map, Option, Some, None, MatchOption, IfSome, is_some, option_map, string_bytes, if◌then◌else◌}
 use Rattle.std.specs.List.{list_any}
 use Rattle.std.specs.declared.alloc.Global.{Global}
 use Rattle.std.specs.declared.string.String.{String}
@@ -15,8 +15,8 @@ use Rattle.toml_working.specs.declared.lines.Slot.{Slot}
 use Rattle.toml_working.specs.declared.working.Position.{Position}
 use Rattle.toml_working.specs.declared.working.Tree.{Tree}
 use Rattle.toml_working.specs.FollowingHeaders.{behind_family, behind_section, blank_line, ends_empty, ends_filled, ends_in_newline, family, header_behind}
-use Rattle.toml_working.specs.FollowingHeaders.{header_ws, is_close, parts_end, put_at_end, put_following, has_parts, is_filled, is_header_line, is_no_comment}
-use Rattle.toml_working.specs.Headers.{element_of, put_last}
+use Rattle.toml_working.specs.FollowingHeaders.{header_ws, is_close, wants_blank, put_at_end, put_following, writes_blank, has_parts, is_filled, is_header_line, is_no_comment}
+use Rattle.toml_working.specs.Headers.{element_of, put_at_text_end}
 use Rattle.toml_working.specs.InsertStanding.{is_bare}
 use Rattle.toml_working.specs.Placing.{lines_before, lines_from}
 use Rattle.toml_working.specs.PuttingHeaders.{AreSpellings}
@@ -111,8 +111,8 @@ FindsLastBelow (s ∷ r) read slots result =
     (λ at. (end : Position) × IsBehindAll read slots end × IsLastThat (is_below (s ∷ r)) read slots end at)
 
 -- an array of tables is not the root
-abbrev pub IsOwnArray : Address → Address → Type 0
-IsOwnArray q p = is_some (element_of p) ≡ true → ¬ (q ≡ [])
+abbrev pub ArrayIsNotRoot : Address → Address → Type 0
+ArrayIsNotRoot q p = is_some (element_of p) ≡ true → ¬ (q ≡ [])
 
 -- so it is of the family
 abbrev pub FindsFamily : Address → Address → Read → List Slot → Option Position → Type 0
@@ -120,7 +120,7 @@ FindsFamily q p read slots = FindsLastBelow (family q p (slots_standing read slo
 
 -- the line behind which a new one goes, if there is one
 abbrev pub FindsBeside : Address → Address → Read → List Slot → Option Position → Type 0
-FindsBeside q p read slots result = IsOwnArray q p → let ss = slots_standing read slots in IfSome result (IsLine read slots)
+FindsBeside q p read slots result = ArrayIsNotRoot q p → let ss = slots_standing read slots in IfSome result (IsLine read slots)
     × ((new : List Standing → Standing) → behind_family (family q p ss) new ss ≡ option_map (put_behind new read slots) result)
 
 -- ---- what then stands on the lines
@@ -134,7 +134,7 @@ PutsBeside p brackets steps style read behind old now done = AreSpellings p (map
 -- a blank line is put in before the last line
 abbrev pub PutsBlank : List ℕ → List ℕ → Read → List Slot → List Slot → Bool → Type 0
 PutsBlank style text read old now done = (ss : List Standing) → Stands text read old ss → ¬ (ss ≡ []) → ends_empty ss ≡ true
-    → Stands text read now (put_last blank_line style ss) × (done ≡ true)
+    → Stands text read now (put_at_text_end blank_line style ss) × (done ≡ true)
 
 -- the last of the lines before a place is there and is not blank, and their last section is close to what stands above it
 abbrev pub TellsFilled : Read → List Slot → Position → Bool → Type 0
@@ -144,21 +144,23 @@ abbrev pub TellsClose : Read → List Slot → Position → Bool → Type 0
 TellsClose read slots place result = result ≡ is_close [] (lines_before read slots place.slot place.index)
 
 -- whether a blank line may be written: none was, and the text ended in a newline
-abbrev pub may_part : Tree → Bool
-may_part tree = not tree.is_parted && ends_in_newline (text_of tree.texts.source)
+abbrev pub may_write_blank : Tree → Bool
+may_write_blank tree = not tree.has_written_blank && ends_in_newline (text_of tree.texts.source)
 
 -- whether one goes before the last line
-abbrev pub TellsParting : Read → Tree → Bool → Type 0
-TellsParting read tree result = (ss : List Standing) → Stands (text_of tree.texts.source) read tree.slots.items ss → result ≡ (may_part tree && parts_end ss)
+abbrev pub TellsBlankDue : Read → Tree → Bool → Type 0
+TellsBlankDue read tree result = (ss : List Standing) → Stands (text_of tree.texts.source) read tree.slots.items ss → result ≡ (may_write_blank tree && wants_blank ss)
 
 -- a header line is put in at the end of the text
 abbrev pub PutsAtEnd : Address → Brackets → List (String Global) → Read → Tree → Tree → Bool → Type 0
 PutsAtEnd p brackets steps read old now done = AreSpellings p (map string_bytes steps) → (ss : List Standing)
     → Stands (text_of old.texts.source) read old.slots.items ss → ¬ (ss ≡ [])
-    → Stands (text_of old.texts.source) read now.slots.items (put_at_end p brackets (leaf_text old.style) (may_part old) ss) × (done ≡ true)
+    → Stands (text_of old.texts.source) read now.slots.items (put_at_end p brackets (leaf_text old.style) (may_write_blank old) ss) × (done ≡ true)
+    × (now.has_written_blank ≡ (old.has_written_blank || (may_write_blank old && wants_blank ss)))
 
 -- in layout `Follow` it is put in where it goes
 abbrev pub TreeFollows : Address → Address → Brackets → List (String Global) → Read → Tree → Tree → Bool → Type 0
-TreeFollows q p brackets steps read old now done = IsOwnArray q p → AreSpellings p (map string_bytes steps) → (ss : List Standing)
+TreeFollows q p brackets steps read old now done = ArrayIsNotRoot q p → AreSpellings p (map string_bytes steps) → (ss : List Standing)
     → Stands (text_of old.texts.source) read old.slots.items ss → ¬ (ss ≡ [])
-    → Stands (text_of old.texts.source) read now.slots.items (put_following q p brackets (leaf_text old.style) (may_part old) ss) × (done ≡ true)
+    → Stands (text_of old.texts.source) read now.slots.items (put_following q p brackets (leaf_text old.style) (may_write_blank old) ss) × (done ≡ true)
+    × (now.has_written_blank ≡ (old.has_written_blank || writes_blank q p brackets (leaf_text old.style) (may_write_blank old) ss))

@@ -4,7 +4,7 @@ use Rattle.std.specs.List.{list_any}
 use Rattle.toml_names.specs.model.Addresses.{Address}
 use Rattle.toml_layout.specs.Outlines.{Nothing}
 use Rattle.toml_layout.specs.declared.tree.Brackets.{Brackets}
-use Rattle.toml_working.specs.Headers.{element_of, has_no_bytes, new_header, put_last}
+use Rattle.toml_working.specs.Headers.{element_of, has_no_bytes, new_header, put_at_text_end}
 use Rattle.toml_working.specs.InsertStanding.{has_pair, is_bare, is_blank, is_comment}
 use Rattle.toml_working.specs.OpeningLines.{alone}
 use Rattle.toml_working.specs.Placing.{is_header}
@@ -71,18 +71,18 @@ behind_last r new front (s ∷ ss) =
     if list_any (is_below r) ss then option_map (λ t. s ∷ t) (behind_last r new (front ++ s ∷ []) ss)
     else if is_below r s then behind_section new front (s ∷ ss) else None
 
--- the address right above another
+-- the address right above another; that of the root is the root
 abbrev pub right_above : Address → Address
 right_above [] = []
 right_above (s ∷ []) = []
 right_above (s ∷ t ∷ steps) = s ∷ right_above (t ∷ steps)
 
--- the family of what is to stand at `p`, right below `q`: that of an element is its array, or where no line stands at the array or below it
--- what the array stands in
+-- the family of what is to stand at `p`, right below `q`: of a table `q`, its parent; of an element its array `q`, or where no line stands there
+-- or below it what the array stands in
 abbrev pub family : Address → Address → List Standing → Address
 family q p ss = if is_some (element_of p) && not (list_any (is_below q) ss) then right_above q else q
 
--- behind the last section of the family; the root is none
+-- behind the last section of the family; the root is no family
 abbrev pub behind_family : Address → (List Standing → Standing) → List Standing → Option (List Standing)
 behind_family [] new ss = None
 behind_family (s ∷ r) new ss = behind_last (s ∷ r) new [] ss
@@ -126,10 +126,10 @@ but_last [] = []
 but_last (s ∷ []) = []
 but_last (s ∷ t ∷ ss) = s ∷ but_last (t ∷ ss)
 
--- whether a blank line parts a new last section from what stands above it: the last line has no bytes, and may become a blank one, the line
--- above is not blank, and the last section there is not close to what stands above it
-abbrev pub parts_end : List Standing → Bool
-parts_end ss = ends_empty ss && (ends_filled (but_last ss) && not (is_close [] (but_last ss)))
+-- whether a blank line is due at the end, if one may be written: the last line has no bytes, there is a line above it that is not blank, and
+-- the last header line there is not close to what stands above it
+abbrev pub wants_blank : List Standing → Bool
+wants_blank ss = ends_empty ss && (ends_filled (but_last ss) && not (is_close [] (but_last ss)))
 
 -- a blank line that ends so
 abbrev pub blank_line : List ℕ → Standing
@@ -144,15 +144,23 @@ ends_in_newline (b ∷ c ∷ bs) = ends_in_newline (c ∷ bs)
 -- a header line at the end of the text, behind a blank one where there may be one and one parts it from what stands above
 abbrev pub put_at_end : Address → Brackets → List ℕ → Bool → List Standing → List Standing
 put_at_end p brackets style may ss =
-    put_last (new_header p brackets (header_ws p ss)) style (if may && parts_end ss then put_last blank_line style ss else ss)
+    put_at_text_end (new_header p brackets (header_ws p ss)) style (if may && wants_blank ss then put_at_text_end blank_line style ss else ss)
 
 -- these lines, if there are any, else those with the header line at the end
 abbrev pub or_at_end : Address → Brackets → List ℕ → Bool → List Standing → Option (List Standing) → List Standing
 or_at_end p brackets style may ss None = put_at_end p brackets style may ss
 or_at_end p brackets style may ss (Some put) = put
 
--- the header line of what is to stand at `p`, right below `q`: behind the last section of its family, where more follows there, else at the
--- end; `may` tells whether a blank line may be written
+-- lines with the header line of what is to stand at `p`, right below `q`, behind the last section of its family, where more than blank lines
+-- follows there
+abbrev pub beside_family : Address → Address → Brackets → List ℕ → List Standing → Option (List Standing)
+beside_family q p brackets style ss = behind_family (family q p ss) (λ front. header_behind p brackets front style) ss
+
+-- with it there, else at the end; `may` tells whether a blank line may be written
 abbrev pub put_following : Address → Address → Brackets → List ℕ → Bool → List Standing → List Standing
 put_following q p brackets style may ss =
-    or_at_end p brackets style may ss (behind_family (family q p ss) (λ front. header_behind p brackets front style) ss)
+    or_at_end p brackets style may ss (beside_family q p brackets style ss)
+
+-- whether a blank line is written before it
+abbrev pub writes_blank : Address → Address → Brackets → List ℕ → Bool → List Standing → Bool
+writes_blank q p brackets style may ss = not (is_some (beside_family q p brackets style ss)) && (may && wants_blank ss)

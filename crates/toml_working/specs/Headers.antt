@@ -84,19 +84,20 @@ put_after new style s [] = end_in style s ∷ new [] ∷ []
 put_after new style s (b ∷ bs) = s ∷ new style ∷ []
 
 -- a new line at the end of the text: before the last line where that has no bytes, else behind it
-abbrev pub put_last : (List ℕ → Standing) → List ℕ → List Standing → List Standing
-put_last new style [] = []
-put_last new style (s ∷ []) = if has_no_bytes s.outline then new style ∷ s ∷ [] else put_after new style s s.outline.newline
-put_last new style (s ∷ t ∷ ss) = s ∷ put_last new style (t ∷ ss)
+abbrev pub put_at_text_end : (List ℕ → Standing) → List ℕ → List Standing → List Standing
+put_at_text_end new style [] = []
+put_at_text_end new style (s ∷ []) = if has_no_bytes s.outline then new style ∷ s ∷ [] else put_after new style s s.outline.newline
+put_at_text_end new style (s ∷ t ∷ ss) = s ∷ put_at_text_end new style (t ∷ ss)
 
 -- these lines, if there are any, else those with the new one at the end
 abbrev pub or_last : (List ℕ → Standing) → List ℕ → List Standing → Option (List Standing) → List Standing
-or_last new style ss None = put_last new style ss
+or_last new style ss None = put_at_text_end new style ss
 or_last new style ss (Some put) = put
 
--- in an element of an array of tables, or in none
+-- Where `Plain` puts a new line: before the next header line behind the last one of the element, if there are such; else, or in no element, at
+-- the end of the text.
 abbrev pub put_plainly : Option Address → (List ℕ → Standing) → List ℕ → List Standing → List Standing
-put_plainly None new style ss = put_last new style ss
+put_plainly None new style ss = put_at_text_end new style ss
 put_plainly (Some e) new style ss = or_last new style ss (before_next e (new style) ss)
 
 -- ---- what documents have under the table rules
@@ -128,9 +129,9 @@ begins_later e (Some n) own = false
 begins_later e None None = false
 begins_later e None (Some a) = is_later e a
 
--- the header lines at an element of an array of tables and below it stand together: none before its own, and none behind that of a later
--- element of the array
-pub record StandTogether (e : Address) (ss : List Standing) : Type 0 where
+-- no header line below an element of an array of tables stands before the element's own, and none at or below it behind that of a later element
+-- of the array; others may stand between
+pub record StandInTurn (e : Address) (ss : List Standing) : Type 0 where
   pub first : (front : List Standing) (h : Standing) (back : List Standing) → ss ≡ front ++ h ∷ back → is_sought_line sought.Header e h ≡ true
       → has_below e front ≡ false
   pub last : (front : List Standing) (h : Standing) (back : List Standing) → ss ≡ front ++ h ∷ back → begins_later e h.base h.address ≡ true
@@ -139,4 +140,4 @@ pub record StandTogether (e : Address) (ss : List Standing) : Type 0 where
 -- those of the element, if there is one
 abbrev pub ElementStands : Option Address → List Standing → Type 0
 ElementStands None ss = Unit {0}
-ElementStands (Some e) ss = StandTogether e ss
+ElementStands (Some e) ss = StandInTurn e ss

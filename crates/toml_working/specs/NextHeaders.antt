@@ -10,7 +10,7 @@ use Rattle.toml_working.specs.declared.lines.Sought.TheVariants as sought
 use Rattle.toml_working.specs.declared.sections.Walk.{Walk}
 use Rattle.toml_working.specs.declared.sections.Walk.TheVariants as walks
 use Rattle.toml_working.specs.declared.working.Position.{Position}
-use Rattle.toml_working.specs.Headers.{StandTogether, before_next, has_below}
+use Rattle.toml_working.specs.Headers.{StandInTurn, before_next, has_below}
 use Rattle.toml_working.specs.Placing.{IsNoHeader, is_header, lines_before, lines_from}
 use Rattle.toml_working.specs.Seeing.{found, is_sought_line, line_at, read_by, seen}
 use Rattle.toml_working.specs.Standing.{Standing, Read, slots_standing}
@@ -55,19 +55,19 @@ Walked e read slots all rest (walks.Ended next) = IsNext e read slots all rest n
 -- past the header line at a place
 abbrev pub WalksPast : Address → Seen → Position → Walk → Walk → Type 0
 WalksPast e line at walk result = (read : Read) (slots : List Slot) (all rest : List Standing) (s : Standing) → seen line ≡ found s
-    → is_header s.base s.address ≡ true → line_at read slots at ≡ Some s → lines_from read slots at.slot at.index ≡ s ∷ rest → StandTogether e all
+    → is_header s.base s.address ≡ true → line_at read slots at ≡ Some s → lines_from read slots at.slot at.index ≡ s ∷ rest → StandInTurn e all
     → Walked e read slots all (s ∷ rest) walk → Walked e read slots all rest result
 
 -- past the lines of a slot
 abbrev pub WalksSlot : Address → List ReadUnit → Slot → ℕ → Walk → Walk → Type 0
 WalksSlot e units slot k walk result = (lines : List tree.Line) (slots : List Slot) → slice_get slots k ≡ Some slot → let read = read_by units lines in
-    (all : List Standing) → StandTogether e all
+    (all : List Standing) → StandInTurn e all
     → Walked e read slots all (lines_from read slots k 0) walk → Walked e read slots all (lines_from read slots (k + 1) 0) result
 
 -- before the line at the place, if there is one, a line goes that stands before the next header line
 abbrev pub FindsNext : Address → List ReadUnit → List Slot → Option Position → Type 0
 FindsNext e units slots result = (lines : List tree.Line) → let read = read_by units lines in
-    let all = slots_standing read slots in StandTogether e all → IfSome result (λ at. at.slot < length slots)
+    let all = slots_standing read slots in StandInTurn e all → IfSome result (λ at. at.slot < length slots)
     × ((new : Standing)
     → before_next e new all ≡ option_map (λ at. lines_before read slots at.slot at.index ++ new ∷ lines_from read slots at.slot at.index) result)
 
@@ -79,4 +79,4 @@ FindsPlace (Some e) units slots result = FindsNext e units slots result
 -- no header line at the element or below it stands in the slots before this one
 abbrev pub FindsFirst : Address → List ReadUnit → List Slot → ℕ → Type 0
 FindsFirst e units slots k = (lines : List tree.Line) → let read = read_by units lines in
-    StandTogether e (slots_standing read slots) → has_below e (lines_before read slots k 0) ≡ false
+    StandInTurn e (slots_standing read slots) → has_below e (lines_before read slots k 0) ≡ false

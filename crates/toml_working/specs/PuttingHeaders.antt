@@ -10,7 +10,7 @@ use Rattle.toml_layout.specs.declared.tree.Brackets.{Brackets}
 use Rattle.toml_working.specs.declared.lines.Line.{Line}
 use Rattle.toml_working.specs.declared.lines.Slot.{Slot}
 use Rattle.toml_working.specs.declared.working.Position.{Position}
-use Rattle.toml_working.specs.Headers.{ElementStands, has_no_bytes, header_outline, new_header, put_last, put_plainly}
+use Rattle.toml_working.specs.Headers.{ElementStands, has_no_bytes, header_outline, new_header, put_at_text_end, put_plainly}
 use Rattle.toml_working.specs.OpeningLines.{HasOutline}
 use Rattle.toml_working.specs.Placing.{lines_before, lines_from}
 use Rattle.toml_working.specs.Seeing.{line_at}
@@ -77,7 +77,7 @@ FindsEnd slots result = (read : Read) → MatchOption result (slots_standing rea
 -- a header line is put in at the end of the text
 abbrev pub PutsLast : Address → Brackets → List ℕ → List (String Global) → List ℕ → List ℕ → Read → List Slot → List Slot → Bool → Type 0
 PutsLast p brackets ws steps style text read old now done = AreSpellings p (map string_bytes steps) → (ss : List Standing) → Stands text read old ss → ¬ (ss ≡ [])
-    → Stands text read now (put_last (new_header p brackets ws) style ss) × (done ≡ true)
+    → Stands text read now (put_at_text_end (new_header p brackets ws) style ss) × (done ≡ true)
 
 -- it is put in where it goes in layout `Plain`
 abbrev pub AddsPlainly : Option Address → Address → Brackets → List (String Global) → List ℕ → List ℕ → Read → List Slot → List Slot → Bool → Type 0

@@ -53,11 +53,18 @@ pub record Stands (text : List ℕ) (read : Read) (slots : List Slot) (ss : List
   pub kept : EachIs (SlotKept text read) slots
   pub are : slots_standing read slots ≡ ss
 
--- nothing of the tree changes but its lines
+-- the texts, the elements that are gone, and the newline of new lines stay
+pub record KeepsTexts (old new : Tree) : Type 0 where
+  pub texts : new.texts ≡ old.texts
+  pub elements : new.elements ≡ old.elements
+  pub style : new.style ≡ old.style
+
+-- and no blank line is written before a header line
 pub record KeepsRest (old new : Tree) : Type 0 where
   pub texts : new.texts ≡ old.texts
   pub elements : new.elements ≡ old.elements
   pub style : new.style ≡ old.style
+  pub blank : new.has_written_blank ≡ old.has_written_blank
 
 -- a `set` on lines, below the root
 abbrev pub SetsLines : Address → ValueOutline → List ℕ → Read → List Slot → List Slot → Bool → Type 0

@@ -78,3 +78,4 @@ pub record IsAsRead (texts : Texts) (before : Before) (tree : Tree) : Type 0 whe
   pub texts_are : tree.texts ≡ texts
   pub elements : NoneIsGone tree.elements
   pub style : leaf_text tree.style ≡ style_of (lines_known before.known.now)
+  pub blank : tree.has_written_blank ≡ false

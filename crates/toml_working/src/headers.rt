@@ -1,13 +1,13 @@
 //! Where a header line goes, and how it begins, by layout `Follow`.
-ghost use Rattle.std.specs.Prelude.{◌≡◌, IfOk, OnOk};
+ghost use Rattle.std.specs.Prelude.{◌≡◌, IfOk, OnOk, true};
 ghost use Rattle.toml_text.specs.Source.{text_of};
 ghost use Rattle.toml_layout.specs.OpenOutlines.{leaf_text};
-ghost use Rattle.toml_working.specs.Following.{BeginsHeader, EndsSectionAt, FillsFrom, FindsBeside, FindsFamily, FindsLandmark, FindsLastBelow, FillsSlot, GoesUpTo, IsBehindAll, IsOwnArray, TellsAt, is_landmark};
-ghost use Rattle.toml_working.specs.Following.{PutsAtEnd, PutsBeside, PutsBlank, TellsClose, TellsFilled, TellsParting, TreeFollows, may_part};
+ghost use Rattle.toml_working.specs.Following.{BeginsHeader, EndsSectionAt, FillsFrom, FindsBeside, FindsFamily, FindsLandmark, FindsLastBelow, FillsSlot, GoesUpTo, IsBehindAll, ArrayIsNotRoot, TellsAt, is_landmark};
+ghost use Rattle.toml_working.specs.Following.{PutsAtEnd, PutsBeside, PutsBlank, TellsClose, TellsFilled, TellsBlankDue, TreeFollows, may_write_blank};
 ghost use Rattle.toml_working.specs.FollowingHeaders.{ends_in_newline, is_entry_line, is_filled, is_header_line, is_no_comment};
 ghost use Rattle.toml_working.specs.Standing.{Read};
 ghost use Rattle.toml_working.specs.Starting.{read_of};
-ghost use Rattle.toml_working.specs.Stands.{KeepsRest};
+ghost use Rattle.toml_working.specs.Stands.{KeepsRest, KeepsTexts};
 
 use crate::lines::Line;
 use crate::removing::parent_of;
@@ -43,7 +43,8 @@ impl<'x> Tree<'x> {
         above: &Above,
         new: NewHeader<'_, 'x>,
     ) -> Result<bool, AllocError>
-        ensures { let it = new.entry in
+        ensures rest { OnOk result (KeepsTexts self.old self.new) }
+        ensures put { let it = new.entry in
             IfOk result (TreeFollows above.now.at it.at.now it.brackets it.spelled.now (read_of before.entry) self.old self.new) }
     {
         match self.place_beside(before, above, new)? {
@@ -59,7 +60,8 @@ impl<'x> Tree<'x> {
         behind: Position,
         new: NewHeader<'_, 'x>,
     ) -> Result<bool, AllocError>
-        ensures { let it = new.entry in
+        ensures rest { OnOk result (KeepsRest self.old self.new) }
+        ensures put { let it = new.entry in
             let style = leaf_text self.old.style in
             IfOk result (PutsBeside it.at.now it.brackets it.spelled.now style (read_of before.entry) behind self.old.slots.items self.new.slots.items) }
     {
@@ -97,7 +99,7 @@ impl<'x> Tree<'x> {
         new: NewHeader<'_, 'x>,
     ) -> Result<Option<Position>, AllocError>
         ensures { let q = above.now.at in
-            IfOk result (λ found. IsOwnArray q new.entry.at.now → FindsFamily q new.entry.at.now (read_of before.entry) self.now.slots.items found) }
+            IfOk result (λ found. ArrayIsNotRoot q new.entry.at.now → FindsFamily q new.entry.at.now (read_of before.entry) self.now.slots.items found) }
     {
         if let Some(last) = self.last_of(before, &above.at)? {
             return Ok(Some(last));
@@ -284,17 +286,18 @@ impl<'x> Tree<'x> {
         }
     }
 
-    /// Puts a header line in at the end of the text, behind a blank line where the last one is not close to the lines above.
+    /// Puts a header line in at the end of the text, behind a blank line where one is due.
     fn add_at_end(
         &mut self,
         before: Before<'_, 'x>,
         new: NewHeader<'_, 'x>,
     ) -> Result<bool, AllocError>
-        ensures { let it = new.entry in
+        ensures rest { OnOk result (KeepsTexts self.old self.new) }
+        ensures put { let it = new.entry in
             IfOk result (PutsAtEnd it.at.now it.brackets it.spelled.now (read_of before.entry) self.old self.new) }
     {
         let ws = self.header_ws(before, self.text_end(), new.at)?;
-        if !self.is_to_part(before)? {
+        if !self.is_blank_due(before)? {
             return self.add_last(before, new, ws);
         }
         if !self.put_blank(before)? {
@@ -305,7 +308,8 @@ impl<'x> Tree<'x> {
 
     /// Puts a blank line in before the last line, which has no bytes.
     fn put_blank(&mut self, before: Before<'_, 'x>) -> Result<bool, AllocError>
-        ensures rest { OnOk result (KeepsRest self.old self.new) }
+        ensures rest { OnOk result (KeepsTexts self.old self.new) }
+        ensures wrote { IfOk result (λ done. done ≡ true → self.new.has_written_blank ≡ true) }
         ensures put { let style = leaf_text self.old.style in
             let text = text_of self.old.texts.source in
             IfOk result (PutsBlank style text (read_of before.entry) self.old.slots.items self.new.slots.items) }
@@ -313,7 +317,7 @@ impl<'x> Tree<'x> {
         let Some(last) = self.last_line() else {
             return Ok(false);
         };
-        self.is_parted = true;
+        self.has_written_blank = true;
         let blank = Line::new(self.alloc(), None, None, Expr::Blank, self.style)?;
         self.put(before, last, blank)
     }
@@ -321,10 +325,10 @@ impl<'x> Tree<'x> {
     /// Whether a blank line parts a new last section from what stands above it: the last line has no bytes, and may become a blank one,
     /// the line above is not blank, and the last header line, with the comment lines above it, does not stand directly behind another
     /// or a key.
-    fn is_to_part(&self, before: Before<'_, 'x>) -> Result<bool, AllocError>
-        ensures { IfOk result (TellsParting (read_of before.entry) self.now) }
+    fn is_blank_due(&self, before: Before<'_, 'x>) -> Result<bool, AllocError>
+        ensures { IfOk result (TellsBlankDue (read_of before.entry) self.now) }
     {
-        if !self.may_part() {
+        if !self.may_write_blank() {
             return Ok(false);
         }
         let Some(last) = self.last_line() else {
@@ -340,10 +344,10 @@ impl<'x> Tree<'x> {
     }
 
     /// Whether a blank line may be written: none was, and the text before the edits ends in a newline.
-    fn may_part(&self) -> bool
-        ensures { result ≡ may_part self.now }
+    fn may_write_blank(&self) -> bool
+        ensures { result ≡ may_write_blank self.now }
     {
-        !self.is_parted && self.ended()
+        !self.has_written_blank && self.ended()
     }
 
     /// Whether the text before the edits ends in a newline.

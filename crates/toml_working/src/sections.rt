@@ -10,9 +10,9 @@ ghost use Rattle.toml_working.specs.Headers.{innermost};
 ghost use Rattle.toml_working.specs.InValues.{places_of};
 ghost use Rattle.toml_working.specs.NextHeaders.{FindsNext, FindsPlace, WalksPast, WalksSlot};
 ghost use Rattle.toml_working.specs.PuttingHeaders.{AddsPlainly, FindsEnd, HasNoBytesAt, IsHeaderOf, PutsHeader, PutsLast, name_texts, up_to};
-ghost use Rattle.toml_working.specs.AddingHeaders.{TreeAddsHeader, TreePutsHeader};
+ghost use Rattle.toml_working.specs.AddingHeaders.{LaysOutHeader, TreeAddsHeader};
 ghost use Rattle.toml_working.specs.Starting.{read_of};
-ghost use Rattle.toml_working.specs.Stands.{KeepsRest};
+ghost use Rattle.toml_working.specs.Stands.{KeepsRest, KeepsTexts};
 ghost use Rattle.toml_working.specs.declared.sections.Walk.TheVariants as walks;
 
 use crate::lines::{Line, Seen, Slot};
@@ -59,18 +59,20 @@ enum Walk {
 }
 
 impl<'x> Tree<'x> {
-    /// Puts a header line in: before the first header line behind those of the innermost element of an array of tables in
-    /// which it is to stand, else at the end of the text; by layout `Follow` behind the last section of its family. It answers `false`
-    /// where a value stands right above it, or holds what stands there.
+    /// Puts a header line in. By layout `Plain` it goes before the first header line behind those of the innermost element of an array
+    /// of tables in which it is to stand, else to the end of the text. By layout `Follow` it goes behind the last section of its family,
+    /// where more than blank lines follows there; else to the end, and a blank line may go before it. It answers `false` where a value
+    /// stands right above it, or holds what stands there.
     pub fn add_header(
         &mut self,
         before: Before<'_, 'x>,
         above: &Above,
         new: NewHeader<'_, 'x>,
     ) -> Result<bool, AllocError>
-        ensures { let it = new.entry in
+        ensures rest { OnOk result (KeepsTexts self.old self.new) }
+        ensures put { let it = new.entry in
             let element = above.now.element in
-            IfOk result (TreePutsHeader above.now.at element it.at.now it.brackets it.spelled.now (read_of before.entry) self.old self.new) }
+            IfOk result (TreeAddsHeader above.now.at element it.at.now it.brackets it.spelled.now (read_of before.entry) self.old self.new) }
     {
         if self.value_line(before, above.named, &above.at).is_some() {
             return Ok(false);
@@ -85,9 +87,10 @@ impl<'x> Tree<'x> {
         above: &Above,
         new: NewHeader<'_, 'x>,
     ) -> Result<bool, AllocError>
-        ensures { let it = new.entry in
+        ensures rest { OnOk result (KeepsTexts self.old self.new) }
+        ensures put { let it = new.entry in
             let element = above.now.element in
-            IfOk result (TreeAddsHeader above.now.at element it.at.now it.brackets it.spelled.now (read_of before.entry) self.old self.new) }
+            IfOk result (LaysOutHeader above.now.at element it.at.now it.brackets it.spelled.now (read_of before.entry) self.old self.new) }
     {
         match self.texts.layout {
             Layout::Plain => self.add_plainly(before, above, new),
@@ -102,7 +105,8 @@ impl<'x> Tree<'x> {
         above: &Above,
         new: NewHeader<'_, 'x>,
     ) -> Result<bool, AllocError>
-        ensures { let it = new.entry in
+        ensures rest { OnOk result (KeepsRest self.old self.new) }
+        ensures put { let it = new.entry in
             let style = leaf_text self.old.style in
             let text = text_of self.old.texts.source in
             IfOk result (AddsPlainly above.now.element it.at.now it.brackets it.spelled.now style text (read_of before.entry) self.old.slots.items self.new.slots.items) }
@@ -147,7 +151,8 @@ impl<'x> Tree<'x> {
         new: NewHeader<'_, 'x>,
         ws: Leaf<'x>,
     ) -> Result<bool, AllocError>
-        ensures { let it = new.entry in
+        ensures rest { OnOk result (KeepsRest self.old self.new) }
+        ensures put { let it = new.entry in
             let style = leaf_text self.old.style in
             let text = text_of self.old.texts.source in
             IfOk result (PutsLast it.at.now it.brackets (leaf_text ws.entry) it.spelled.now style text (read_of before.entry) self.old.slots.items self.new.slots.items) }

@@ -72,7 +72,7 @@ pub struct Tree<'x> {
     /// The line behind which the last one was put in, in the section of a table: a guess that is tested.
     pub section_end: Position,
     /// Whether a blank line was written before a header line at the end of the text.
-    pub is_parted: bool,
+    pub has_written_blank: bool,
     /// Where to look for what was put in or renamed: guesses that are tested.
     pub guesses: Guesses,
 }
@@ -95,7 +95,7 @@ impl<'x> Tree<'x> {
             style: style_of(texts.alloc, before.known)?,
             root_end: Position { slot: 0, index: 0 },
             section_end: Position { slot: 0, index: 0 },
-            is_parted: false,
+            has_written_blank: false,
             guesses: Guesses::none(texts.alloc),
         })
     }

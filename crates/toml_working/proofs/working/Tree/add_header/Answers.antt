@@ -6,8 +6,8 @@ use Rattle.toml_working.proofs.HeaderAdded.{added, refused}
 use Rattle.toml_working.proofs.LookedUp.{none_is, some_is}
 use Rattle.toml_working.proofs.working.Tree.add_header.Goals as goal
 
-pub returns-then-is_some : goal.returns-then-is_some
-returns-then-is_some c =
+pub returns-then-is_some-clause-put : goal.returns-then-is_some-clause-put
+returns-then-is_some-clause-put c =
     let it = c.args.new in
     let tree = c.args.self.now in
     let q = c.args.above.now.at in
@@ -16,12 +16,12 @@ returns-then-is_some c =
     refused q it.at.now c.args.above.now.element it.brackets it.spelled.now read tree place
     (subst (FindsHolder q c.args.before.units.now tree.slots.items) is c.value_line.ensures.0 read.lines)
 
-pub returns : goal.returns
-returns c =
+pub returns-clause-put : goal.returns-clause-put
+returns-clause-put c =
     let it = c.args.new in
     let tree = c.args.self.now in
     let q = c.args.above.now.at in
     IfOk-weaker c.add_laid_out.result _ _ (λ done adds.
     added q it.at.now c.args.above.now.element it.brackets it.spelled.now (read_of c.args.before) tree c.add_laid_out.new.self done
     (c.value_line.ensures.1 (none_is c.value_line.result (sym c.is_some.ensures ∙ c.if-is_some.false))) adds)
-    c.add_laid_out.ensures
+    c.add_laid_out.ensures.put

@@ -7,15 +7,15 @@ use Rattle.toml_working.proofs.Answered.{if_ok_both_of}
 use Rattle.toml_working.proofs.HeaderPut.{before_end, behind_end, no_end}
 use Rattle.toml_working.proofs.working.Tree.add_last.Goals as goal
 
-pub returns-in_default : goal.returns-in_default
-returns-in_default c =
+pub returns-in_default-clause-put : goal.returns-in_default-clause-put
+returns-in_default-clause-put c =
     let it = c.args.new in
     let tree = c.args.self.now in
     no_end it.at.now it.brackets (leaf_text c.args.ws) it.spelled.now (leaf_text tree.style) tree.texts (read_of c.args.before) tree.slots.items tree.slots.items _
     (subst (FindsEnd tree.slots.items) c.in_default.is c.last_line.ensures (read_of c.args.before))
 
-pub returns-then-has_no_bytes : goal.returns-then-has_no_bytes
-returns-then-has_no_bytes c =
+pub returns-then-has_no_bytes-clause-put : goal.returns-then-has_no_bytes-clause-put
+returns-then-has_no_bytes-clause-put c =
     let it = c.args.new in
     let tree = c.args.self.now in
     let read = read_of c.args.before in
@@ -25,8 +25,8 @@ returns-then-has_no_bytes c =
     c.put_header.new.self.slots.items done c.has_no_bytes.result end c.has_no_bytes.ensures c.if-has_no_bytes.true puts)
     c.put_header.ensures.put
 
-pub returns : goal.returns
-returns c =
+pub returns-clause-put : goal.returns-clause-put
+returns-clause-put c =
     let it = c.args.new in
     let tree = c.args.self.now in
     let read = read_of c.args.before in

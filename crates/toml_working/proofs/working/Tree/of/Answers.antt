@@ -8,4 +8,5 @@ returns c = record {
   texts_are = refl;
   elements = c.all.ensures;
   style = c.in_ok-style_of.ensures;
+  blank = refl;
 }

@@ -4,8 +4,8 @@ use Rattle.toml_working.specs.Starting.{read_of}
 use Rattle.toml_working.proofs.FollowedEnd.{beside_put}
 use Rattle.toml_working.proofs.working.Tree.put_beside.Goals as goal
 
-pub returns : goal.returns
-returns c =
+pub returns-clause-put : goal.returns-clause-put
+returns-clause-put c =
     let it = c.args.new in
     let tree = c.args.self.now in
     IfOk-weaker c.put_header.result _ _ (λ done puts.
