@@ -306,7 +306,7 @@ module _ (q p : Address) (brackets : Brackets) (steps : List (String Global)) (r
         },
         answer,
         keeps.blank ∙ sym (or-false old.has_written_blank)
-        ∙ ap (λ o. old.has_written_blank || (not (is_some o) && (may_write_blank old && wants_blank ss))) (sym there),
+            ∙ ap (λ o. old.has_written_blank || (not (is_some o) && (may_write_blank old && wants_blank ss))) (sym there),
       )
 
   -- or at the end
