@@ -105,9 +105,9 @@ pub record WritesRename (read : Read) (p : Address) (to : List ℕ) (old new : T
   pub whole : NoneIsGone new.elements
 
 -- What an edit makes of the working tree, where no element is gone: a `set` puts the value in, if one stands there, and tells whether;
--- an `insert` of a name at the root, or in a table that has a header, puts its line in, a `remove` takes out the line of a value, or makes it the
--- empty table right above where that would go with it, a `rename` gives lines the new name. Where an array or an inline table in the value of a line holds it, an `insert` and a
--- `remove` change that.
+-- an `insert` of a name at the root, or in a table that has a header, puts its line in, a `remove` takes out the line of a value, or makes it
+-- the empty table right above where that would go with it, a `rename` gives lines the new name. Where an array or an inline table in the value
+-- of a line holds it, an `insert` and a `remove` change that.
 abbrev pub WritesEdit : Profile → Read → Change → Tree → Tree → Bool → Type 0
 WritesEdit profile read (set p text) old new done = NoneIsGone old.elements → KeepsRest old new × WritesSet profile read p text old new done
 WritesEdit profile read (insert p text) old new done = NoneIsGone old.elements

@@ -42,8 +42,9 @@ pub fn inserts()
     ensures forms { InsertForms }
 {}
 
-/// After a `remove` of a value of a line the lines name what they named, without what that line names; where the table right above the
-/// value would go with it, that is named as the line's value, an empty table. They keep the table rules and the bound on addresses, have the data that the edit makes, and are in the forms.
+/// After a `remove` of a value of a line the lines name what they named, without what that line names; where the table right above
+/// the value would go with it, that is named as the line's value, an empty table. They keep the table rules and the bound on
+/// addresses, have the data that the edit makes, and are in the forms.
 pub fn removes()
     ensures names { RemoveNames }
     ensures emptied { EmptyNames }

@@ -46,7 +46,7 @@ impl<'t> Line<'t> {
 }
 
 impl<'t> Body<'t> {
-    /// The same, of what is opened.
+    /// Leaves so many parts of the key of a line that is opened, with an empty table, or in a header.
     fn cut(&mut self, texts: Texts<'t>, parts: usize) -> Result<(), AllocError>
         ensures { OnOk result (OpenBecomes (line_emptied parts) self.old self.new) }
     {

@@ -264,7 +264,8 @@ fn is_made_above(slots: &[Slot<'_>], units: &[Unit], address: &Address, other: &
     false
 }
 
-/// The same, the first slot first.
+/// Whether a line of the slots that is not at the other address, nor below it, makes what is at the address. The first slot is asked
+/// first.
 fn is_made_in(slots: &[Slot<'_>], units: &[Unit], address: &Address, other: &Address) -> bool
     ensures { TellsMaker address.now other.now units.now slots.now result }
 {

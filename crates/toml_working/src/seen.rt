@@ -138,7 +138,7 @@ impl Seen<'_> {
         self.is_dotted_in(at) || self.is_header_below(at)
     }
 
-    /// The same, where it is not at the other address, nor below it.
+    /// Whether it makes what is at the address, and is neither at the other address nor below it.
     pub(crate) fn makes_beside(self, at: &Address, other: &Address) -> bool
         ensures { result ≡ makes_apart at.now other.now self.entry.base (lent self.entry.address) }
     {
