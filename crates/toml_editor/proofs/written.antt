@@ -25,6 +25,7 @@ pub mod Fitting
 pub mod Follow
 pub mod Formed
 pub mod HeadersAlone
+pub mod HeaderPut
 pub mod HeadersRenamed
 pub mod InsertFollow
 pub mod InsertFormed

@@ -39,5 +39,6 @@ pub mod Lines
 pub mod Setting
 pub mod Inserting
 pub mod Removing
+pub mod Heading
 pub mod Renaming
 pub mod Written
