@@ -9,8 +9,10 @@ pub mod BlockFacts
 pub mod Certify
 pub mod Clear
 pub mod Closed
+pub mod CountedAlike
 pub mod Deep
 pub mod DocumentSections
+pub mod ElementHeaded
 pub mod Elsewhere
 pub mod EmptiedLine
 pub mod EmptyAlone
@@ -25,7 +27,10 @@ pub mod Fitting
 pub mod Follow
 pub mod Formed
 pub mod HeadersAlone
+pub mod HeaderPlace
 pub mod HeaderPut
+pub mod HeaderSplit
+pub mod HeaderStood
 pub mod HeadersRenamed
 pub mod InsertFollow
 pub mod InsertFormed
@@ -62,6 +67,8 @@ pub mod RenameStanding
 pub mod RenameTexts
 pub mod RootPairs
 pub mod ScalarsLone
+pub mod SectionFacts
+pub mod SectionFollow
 pub mod SetFormed
 pub mod SetKept
 pub mod SetNamed

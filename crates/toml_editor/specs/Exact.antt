@@ -15,7 +15,7 @@ use Rattle.toml_names.specs.declared.model.address.Step.{Step}
 use Rattle.toml_names.specs.model.Addresses.{Address, element}
 use Rattle.toml_names.specs.model.Data.{Kinds}
 use Rattle.toml_edits.specs.After.{IsAfter}
-use Rattle.toml_edits.specs.Edits.{Change, insert, place, rename, set, remove}
+use Rattle.toml_edits.specs.Edits.{Change, insert, place, rename, set, remove, new_section, new_element}
 use Rattle.toml_edits.specs.Faults.{IsFault}
 use Rattle.toml_edits.specs.Lists.{Lead}
 use Rattle.toml_editor.specs.declared.fault.EditorFault.{EditorFault}
@@ -26,7 +26,11 @@ use Rattle.toml_editor.specs.CertifiedLists.{ArePlain}
 use Rattle.toml_editor.specs.LastTexts.{ChangesLines, IsInContainer}
 use Rattle.toml_layout.specs.declared.tree.Value.{Value as OpenValue}
 use Rattle.toml_layout.specs.Holding.{PutsHeld}
+use Rattle.toml_layout.specs.declared.tree.Brackets.{Brackets}
+use Rattle.toml_layout.specs.declared.tree.Brackets.TheVariants.{One, Two}
 use Rattle.toml_layout.specs.OpenOutlines.{leaf_text, value as open_outline}
+use Rattle.toml_working.specs.AddingHeaders.{TreeAddsHeader}
+use Rattle.toml_working.specs.Headers.{innermost}
 use Rattle.toml_working.specs.HeldLines.{HoldsLines, TakesFromValue}
 use Rattle.toml_editor.specs.PlainTexts.{IsPlainOrHeld, IsPlainOn, IsSpreadSet}
 use Rattle.toml_working.specs.Putting.{TreeInserts, manner}
@@ -34,7 +38,7 @@ use Rattle.toml_working.specs.Sections.{TreePutsBelow}
 use Rattle.toml_working.specs.RemovingIn.{RemovesLines}
 use Rattle.toml_editor.specs.SpelledEdits.{AreSteps}
 use Rattle.toml_working.specs.Standing.{AreOrdered, Read, Standing, holds, standing}
-use Rattle.toml_working.specs.Stands.{KeepsRest, Stands, TreeSets}
+use Rattle.toml_working.specs.Stands.{KeepsRest, KeepsTexts, Stands, TreeSets}
 use Rattle.toml_working.specs.Starting.{NoneIsGone}
 use Rattle.toml_editor.specs.Steps.{IsGoodText, AreWritten}
 use Rattle.toml_layout.specs.TreeOutlines.{value_outline}
@@ -62,7 +66,7 @@ pub record Follows (profile : Profile) (read : Read) (c : Change) (old new : Tre
 -- so it does where the edit is plain
 abbrev pub MakesOne : Profile → Read → Change → Tree → Tree → Type 0
 MakesOne profile read c old new = (text : List ℕ) (kinds now : Kinds) → IsAt profile read old text kinds
-    → IsFault profile c kinds None → IsAfter profile c kinds now → IsPlainOn profile text c
+    → IsFault profile c kinds None → IsAfter profile c kinds now → IsPlainOn (manner old).layout profile text c
     → Follows profile read c old new text now
 
 -- the same of edits one after the other
@@ -98,6 +102,11 @@ abbrev pub WritesBelow : Profile → Read → Address → List ℕ → List (Str
 WritesBelow profile read p text steps old new = IsText text → (v : Value) → IsValueIn profile v text → (q : Address) (last : Step) → p ≡ q ++ last ∷ []
     → TreePutsBelow q p steps (value_outline v) read old new
 
+-- a header line for what stands at the address, the steps of which are spelled so: whether it is put in
+abbrev pub WritesHeader : Brackets → Read → Address → List (String Global) → Tree → Tree → Bool → Type 0
+WritesHeader brackets read p steps old new done = (q : Address) (last : Step) → p ≡ q ++ last ∷ []
+    → TreeAddsHeader q (innermost q) p brackets steps read old new done
+
 -- a `rename` to a name
 pub record WritesRename (read : Read) (p : Address) (to : List ℕ) (old new : Tree) : Type 0 where
   pub lines : TreeRenames p to (spelled to) read old new
@@ -106,7 +115,8 @@ pub record WritesRename (read : Read) (p : Address) (to : List ℕ) (old new : T
 
 -- What an edit makes of the working tree, where no element is gone: a `set` puts the value in, if one stands there, and tells whether;
 -- an `insert` of a name at the root, or in a table that has a header, puts its line in, a `remove` takes out the line of a value, or makes it
--- the empty table right above where that would go with it, a `rename` gives lines the new name. Where an array or an inline table in the value
+-- the empty table right above where that would go with it, a `rename` gives lines the new name, a `section` and an `element` put their header
+-- line in. Where an array or an inline table in the value
 -- of a line holds it, an `insert` and a `remove` change that.
 abbrev pub WritesEdit : Profile → Read → Change → Tree → Tree → Bool → Type 0
 WritesEdit profile read (set p text) old new done = NoneIsGone old.elements → KeepsRest old new × WritesSet profile read p text old new done
@@ -115,12 +125,15 @@ WritesEdit profile read (insert p text) old new done = NoneIsGone old.elements
     × WritesInside profile read p text steps old new done × WritesBelow profile read p text steps old new
 WritesEdit profile read (remove p) old new done = NoneIsGone old.elements → RemovesLines p read old new × TakesFromValue p read old new done
 WritesEdit profile read (rename p to) old new done = NoneIsGone old.elements → WritesRename read p to old new
-WritesEdit profile read _ old new done = Unit {0}
+WritesEdit profile read (new_section p) old new done = NoneIsGone old.elements
+    → (steps : List (String Global)) × AreSteps p steps × KeepsTexts old new × WritesHeader One read p steps old new done
+WritesEdit profile read (new_element p) old new done = NoneIsGone old.elements
+    → (steps : List (String Global)) × AreSteps p steps × KeepsTexts old new × WritesHeader Two read p steps old new done
 
 -- the tree stands for no text on which the edit, without a fault, is plain, or held by an array or an inline table in a value
 abbrev pub IsNeitherOn : Profile → Read → Change → Tree → Type 0
 IsNeitherOn profile read c tree = (text : List ℕ) (kinds now : Kinds) → IsAt profile read tree text kinds
-    → IsFault profile c kinds None → IsAfter profile c kinds now → ¬ IsPlainOrHeld profile text c
+    → IsFault profile c kinds None → IsAfter profile c kinds now → ¬ IsPlainOrHeld (manner tree).layout profile text c
 
 -- it sets what is a table or an array
 abbrev pub SetsMany : Change → Kinds → Type 0
@@ -189,7 +202,7 @@ pub record DoneAll (profile : Profile) (read : Read) (near : Kinds) (cs : List C
 
 -- the edit with this number, where those before it are plain, is neither of these on the text that they write
 abbrev pub IsNeitherAt : Profile → Read → List Change → ℕ → Tree → Type 0
-IsNeitherAt profile read cs j tree = OfPlain profile read cs tree j (λ c text kinds. ¬ IsPlainOrHeld profile text c)
+IsNeitherAt profile read cs j tree = OfPlain profile read cs tree j (λ c text kinds. ¬ IsPlainOrHeld (manner tree).layout profile text c)
 
 -- this holds of the number of the edit that has the fault, if it is one of an edit
 abbrev pub OfNumber : (ℕ → Type 0) → EditorFault → Type 0

@@ -6,7 +6,7 @@ use Rattle.toml_scalar.specs.Spelling.{spelled}
 use Rattle.toml_names.specs.declared.model.address.Step.{Step}
 use Rattle.toml_names.specs.declared.model.address.Step.TheVariants.{Name, Index}
 use Rattle.toml_names.specs.model.Addresses.{Address}
-use Rattle.toml_edits.specs.Edits.{Change, insert, rename}
+use Rattle.toml_edits.specs.Edits.{Change, insert, rename, new_section, new_element}
 use Rattle.toml_editor.specs.declared.spelled.Spelled.{Spelled}
 use Rattle.toml_working.specs.Together.{GoTogether}
 
@@ -24,9 +24,11 @@ abbrev pub IsNewName : Change → String Global → Type 0
 IsNewName (rename p to) text = string_bytes text ≡ spelled to
 IsNewName _ text = Unit {0}
 
--- the steps of an `insert` are spelled, and the new name of a `rename`
+-- the steps of an `insert`, a `section` and an `element` are spelled, and the new name of a `rename`
 abbrev pub IsSpelled : Change → Spelled → Type 0
 IsSpelled (insert p text) s = AreSteps p s.steps.items
+IsSpelled (new_section p) s = AreSteps p s.steps.items
+IsSpelled (new_element p) s = AreSteps p s.steps.items
 IsSpelled (rename p to) s = string_bytes s.to ≡ spelled to
 IsSpelled _ s = Unit {0}
 

@@ -1,5 +1,5 @@
 -- The text after one plain edit.
-use Rattle.std.specs.Prelude.{◌≡◌, ◌⊎◌, true, ℕ, List, [], ◌∷◌, ◌++◌, Any, length, ◌==◌, if◌then◌else◌}
+use Rattle.std.specs.Prelude.{◌≡◌, ◌⊎◌, true, false, ℕ, List, [], ◌∷◌, ◌++◌, Any, length, ◌==◌, if◌then◌else◌}
 use Rattle.std.specs.List.{list_any}
 use Rattle.toml_tree.specs.Profiles.{SpellsIn, IsValueIn}
 use Rattle.toml_tree.specs.Spells.{joined, lines_parts}
@@ -8,9 +8,12 @@ use Rattle.toml_tree.specs.declared.profile.Profile.{Profile}
 use Rattle.toml_names.specs.model.Addresses.{Address, child}
 use Rattle.toml_names.specs.mentions.Joining.{is_lone}
 use Rattle.toml_names.specs.mentions.Mentions.{named}
-use Rattle.toml_edits.specs.Edits.{Change, set, insert, rename, remove}
+use Rattle.toml_edits.specs.Edits.{Change, set, insert, rename, remove, new_section}
 use Rattle.toml_layout.specs.declared.layout.Layout.{Layout}
+use Rattle.toml_layout.specs.declared.layout.Layout.TheVariants as layouts
+use Rattle.toml_layout.specs.declared.tree.Brackets.TheVariants.{One}
 use Rattle.toml_working.specs.declared.lines.Sought.TheVariants as sought
+use Rattle.toml_working.specs.Heading.{header_lines}
 use Rattle.toml_working.specs.Manners.{Manner}
 use Rattle.toml_working.specs.Setting.{set_lines}
 use Rattle.toml_working.specs.Inserting.{insert_in}
@@ -18,7 +21,7 @@ use Rattle.toml_working.specs.Removing.{remove_lines}
 use Rattle.toml_working.specs.RemoveStanding.{is_pair}
 use Rattle.toml_working.specs.Renaming.{rename_lines}
 use Rattle.toml_working.specs.Seeing.{is_sought_line}
-use Rattle.toml_working.specs.Standing.{standing}
+use Rattle.toml_working.specs.Standing.{holds, standing}
 
 -- the newline of the first line, or LF where there is none
 abbrev pub style_of : List Line → List ℕ
@@ -41,6 +44,10 @@ HasLine lines p = list_any (is_pair p) (standing lines) ≡ true
 abbrev pub HasSection : List Line → Address → Type 0
 HasSection lines q = (q ≡ []) ⊎ (list_any (is_sought_line sought.Header q) (standing lines) ≡ true)
 
+-- no line's value stands at the address, or holds what does
+abbrev pub IsInNoValue : List Line → Address → Type 0
+IsInNoValue lines q = list_any (holds q) (standing lines) ≡ false
+
 -- the lines after a plain edit; the manner is that of the text before all edits
 abbrev pub AreEdited : Profile → Change → Manner → List Line → List Line → Type 0
 AreEdited profile (set p text) manner old new = (v : Value) × IsValueIn profile v text × HasValue old p × (new ≡ set_lines p v old)
@@ -48,6 +55,8 @@ AreEdited profile (insert p text) manner old new =
     (v : Value) × IsValueIn profile v text × (q : Address) × (name : List ℕ) × (p ≡ child q name) × HasSection old q × (new ≡ insert_in q name v manner old)
 AreEdited profile (rename p to) manner old new = new ≡ rename_lines p to old
 AreEdited profile (remove p) manner old new = HasLine old p × (new ≡ remove_lines p old)
+AreEdited profile (new_section p) manner old new = (q : Address) × (name : List ℕ) × (p ≡ child q name) × (manner.layout ≡ layouts.Plain)
+    × IsInNoValue old q × (new ≡ header_lines q One p manner.newline old)
 AreEdited profile _ manner old new = ⊥
 
 -- the text after it, the mark kept

@@ -150,7 +150,7 @@ around (x ∷ front) s back h =
     let rest = around front s back h.1 in
     (((here.1, here.0), rest.0), rest.1)
 
-not_any : (test : Standing → Bool) (ss : List Standing) → list_any test ss ≡ false → EachIs (λ t. test t ≡ false) ss
+pub not_any : (test : Standing → Bool) (ss : List Standing) → list_any test ss ≡ false → EachIs (λ t. test t ≡ false) ss
 not_any test [] h = tt
 not_any test (s ∷ ss) h = by (test s) refl h (not_any test ss)
   where

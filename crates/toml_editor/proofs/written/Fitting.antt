@@ -14,7 +14,7 @@ use Rattle.toml_edits.specs.ValueTexts.{IsGoodValue}
 use Rattle.toml_editor.proofs.Each.{each_weaker}
 use Rattle.toml_editor.proofs.written.Pairwise.{Has, has_of_any, any_of_has, has_weaker, all_of_each, members_self, taken}
 
-at_most : (a b : ℕ) → ¬ (b < a) → a ≤ b
+pub at_most : (a b : ℕ) → ¬ (b < a) → a ≤ b
 at_most a b not = let low : a < b + 1 = lt_of_not-le (λ high. not (let h = high in omega (arith, h))) in omega (arith, low)
 
 there_is : (o : Option Kind) (k : Kind) → o ≡ Some k → IsSome o

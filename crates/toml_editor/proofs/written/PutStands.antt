@@ -23,20 +23,20 @@ use Rattle.toml_editor.proofs.written.InsertNamed.{spelled_again}
 use Rattle.toml_editor.proofs.written.UnitsAlike.{base_alike, own_alike, step_alike}
 
 -- behind alike lists lines stand alike
-stand_alike : (ls : List Line) (xs ys : List Named) (n m : ℕ) → AreAlike xs ys → standing_from xs n ls ≡ standing_from ys m ls
+pub stand_alike : (ls : List Line) (xs ys : List Named) (n m : ℕ) → AreAlike xs ys → standing_from xs n ls ≡ standing_from ys m ls
 stand_alike [] xs ys n m alike = refl
 stand_alike (l ∷ ls) xs ys n m alike =
     ap₂ (λ s t. s ∷ t)
     (ap₂ (λ (a : Option Address) (b : Option ℕ). record { address = a; base = b; outline = line_outline l }) (own_alike xs ys alike l.expr) (base_alike xs ys alike l.expr))
     (stand_alike ls (xs ++ named_by xs n l.expr) (ys ++ named_by ys m l.expr) (n + 1) (m + 1) (step_alike xs ys n m l.expr alike))
 
-newline_same : (e : Expr) (newline : Piece) → (line_outline (record { expr = e; newline = newline })).newline ≡ newline.text
+pub newline_same : (e : Expr) (newline : Piece) → (line_outline (record { expr = e; newline = newline })).newline ≡ newline.text
 newline_same (BlankLine t) newline = refl
 newline_same (KeyValLine ws pair tail) newline = refl
 newline_same (TableLine ws header tail) newline = refl
 newline_same (ArrayTableLine ws header tail) newline = refl
 
-ends_same : (e : Expr) (newline other : Piece) → line_outline (record { expr = e; newline = other })
+pub ends_same : (e : Expr) (newline other : Piece) → line_outline (record { expr = e; newline = other })
     ≡ (let o = line_outline (record { expr = e; newline = newline }) in record o { newline = other.text })
 ends_same (BlankLine t) newline other = refl
 ends_same (KeyValLine ws pair tail) newline other = refl

@@ -23,6 +23,8 @@ use Rattle.toml_edits.specs.Edits.{Change, set, insert, rename, remove, new_sect
 use Rattle.toml_edits.specs.Faults.{IsFault}
 use Rattle.toml_edits.specs.declared.fault.EditFault.TheVariants.{RootNamed, NotAName, AlreadyThere, AddressLength}
 use Rattle.toml_edits.proofs.Proved.{one_after}
+use Rattle.toml_layout.specs.declared.tree.Brackets.TheVariants.{One}
+use Rattle.toml_working.specs.Heading.{header_lines}
 use Rattle.toml_working.specs.Inserting.{insert_in}
 use Rattle.toml_working.specs.Removing.{remove_lines}
 use Rattle.toml_working.specs.Renaming.{rename_lines}
@@ -38,6 +40,9 @@ use Rattle.toml_editor.proofs.written.RemoveKept.{remove_forms}
 use Rattle.toml_editor.proofs.written.RemovedEither.{remove_data, remove_good}
 use Rattle.toml_editor.proofs.written.RenameFormed.{rename_forms}
 use Rattle.toml_editor.proofs.written.RenameKept.{rename_good, rename_data}
+use Rattle.toml_editor.proofs.written.SectionFacts.{section_goes, section_room}
+use Rattle.toml_editor.proofs.written.SectionFormed.{section_forms, section_of_profile}
+use Rattle.toml_editor.proofs.written.SectionKept.{section_data, section_rules, section_short}
 use Rattle.toml_editor.proofs.written.SetFormed.{set_forms}
 use Rattle.toml_editor.proofs.written.SetKept.{set_rules, set_short, set_data}
 use Rattle.toml_working.specs.Manners.{Manner}
@@ -48,13 +53,14 @@ good_texts_are_documents profile text within = (
   (λ d. (fact_at (named d.1.lines), record { tree = d.1; spelled = (d.2, d.4); good = d.3; facts = lines_have_data d.1.lines d.3.0 })),
 )
 
-edited_lines : (profile : Profile) (c : Change) (manner : Manner) (lines : List Line) (old now : Kinds) → IsAfter profile c old now → IsPlain lines c → (new : List Line) × AreEdited profile c manner lines new
+edited_lines : (profile : Profile) (c : Change) (manner : Manner) (lines : List Line) (old now : Kinds) → IsAfter profile c old now → IsPlain manner.layout lines c → (new : List Line) × AreEdited profile c manner lines new
 edited_lines profile (set p text) manner lines old now after there = let v = after.1.value.tree in (set_lines p v lines, (v, after.1.value.is_value, there, refl))
 edited_lines profile (insert p text) manner lines old now after (q, name, at, there) =
     let v = after.1.value.tree in (insert_in q name v manner lines, (v, after.1.value.is_value, q, name, at, there, refl))
 edited_lines profile (rename p to) manner lines old now after plain = (rename_lines p to lines, refl)
 edited_lines profile (remove p) manner lines old now after there = (remove_lines p lines, (there, refl))
-edited_lines profile (new_section p) manner lines old now after plain = absurd plain
+edited_lines profile (new_section p) manner lines old now after (layout, q, name, at, outside) =
+    (header_lines q One p manner.newline lines, (q, name, at, layout, outside, refl))
 edited_lines profile (new_element p) manner lines old now after plain = absurd plain
 
 pub plain_is_written : PlainIsWritten
@@ -110,7 +116,20 @@ module _ (profile : Profile) (manner : Manner) (newline : IsNewline manner.newli
         good = remove_good p lines there good;
         after = λ kinds is'. remove_data profile p lines old kinds there good.0 is is';
       })
-  edited (new_section p) now new none after made = absurd made
+  edited (new_section p) now new none after (q, name, at, layout, outside, made) =
+      let room = section_room profile q name old (subst (λ x. IsFault profile (new_section x) old None) at none) in
+      let put = (section_goes q name manner.newline lines old forms good.0 is room outside).section in
+      let edited = header_lines q One (child q name) manner.newline lines in
+      subst (AreNew profile (new_section p) old) (sym made)
+      (subst (λ x. AreNew profile (new_section x) old (header_lines q One x manner.newline lines)) (sym at) (record {
+        forms = section_forms q name manner.newline lines edited put forms newline;
+        profiled = section_of_profile profile q name manner.newline lines edited put profiled;
+        good = (
+          section_rules q name manner.newline lines edited old put good.0 is room.table room.free outside,
+          section_short q name manner.newline lines edited put good.1 room.short,
+        );
+        after = λ kinds is'. section_data profile q name manner.newline lines edited old kinds put good.0 is room.table room.free is';
+      }))
   edited (new_element p) now new none after made = absurd made
 
 -- two maps that are equal at each address are the data of the same
@@ -169,7 +188,8 @@ one_edited profile (insert p text) manner old one two (v, value, q, m, at, there
     is ∙ ap₂ (λ x k. insert_in q k x manner old) (one_value v w 0 text value.0 value'.0) names ∙ ap (λ t. insert_in t n w manner old) tables ∙ sym is'
 one_edited profile (rename p to) manner old one two is is' = is ∙ sym is'
 one_edited profile (remove p) manner old one two (there, is) (there', is') = is ∙ sym is'
-one_edited profile (new_section p) manner old one two is is' = absurd is
+one_edited profile (new_section p) manner old one two (q, m, at, layout, outside, is) (r, n, at', layout', outside', is') =
+    let (tables, names) = same_member q r m n (sym at ∙ at') in is ∙ ap (λ t. header_lines t One p manner.newline old) tables ∙ sym is'
 one_edited profile (new_element p) manner old one two is is' = absurd is
 
 pub one_written : OneWritten

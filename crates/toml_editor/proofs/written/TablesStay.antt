@@ -86,7 +86,7 @@ module _ (p q : Address) where
           ]
 
   -- such a line stands at the table or below it
-  begins_under : (a : Address) → begins q a ≡ true → IsUnder q a
+  pub begins_under : (a : Address) → begins q a ≡ true → IsUnder q a
   begins_under a is = elim (begins_is q a is) [
     | inl same ↦ ([], sym same ∙ sym (append-nil q))
     | inr above ↦ (above.0 ∷ above.1, above.2)

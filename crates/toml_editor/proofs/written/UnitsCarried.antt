@@ -37,10 +37,15 @@ use Rattle.toml_editor.proofs.written.InsertFormed.{insert_forms}
 use Rattle.toml_editor.proofs.written.RenameFormed.{rename_forms}
 use Rattle.toml_editor.proofs.written.WayComments.{comments}
 use Rattle.toml_working.specs.Setting.{set_lines}
-use Rattle.toml_working.specs.Written.{HasLine, HasSection, HasValue, IsWritten}
+use Rattle.toml_layout.specs.declared.tree.Brackets.TheVariants.{One}
+use Rattle.toml_working.specs.Heading.{header_lines}
+use Rattle.toml_working.specs.Written.{HasLine, HasSection, HasValue, IsInNoValue, IsWritten}
+use Rattle.toml_editor.proofs.written.SectionFacts.{section_goes, section_room}
+use Rattle.toml_editor.proofs.written.SectionFormed.{section_forms}
 use Rattle.toml_editor.proofs.written.SetKept.{set_short}
 use Rattle.toml_editor.proofs.written.SetFormed.{set_forms}
 use Rattle.toml_editor.proofs.written.WaySet.{set_way}
+use Rattle.toml_editor.proofs.written.WayHeaded.{section_way}
 use Rattle.toml_editor.proofs.written.WayPut.{insert_way}
 use Rattle.toml_editor.proofs.written.WayRenamed.{rename_way}
 use Rattle.toml_editor.proofs.written.WayWhole.{HasWay, partners, same_seen, same_newlines}
@@ -186,12 +191,33 @@ remove_goes p profile manner before after old now newline good none is_after (d,
       way = remove_way p lines good.spelled.0.lines.forms has_line good.good.0 far;
     }
 
+section_ways : (p : Address) → HaveWays (new_section p)
+section_ways p profile manner before after old now newline good none is_after (d, spells, edited, (q, name, at, layout, outside, made), text) =
+    let same : d ≡ good.tree = one_tree d good.tree before spells.0 good.spelled.0 in
+    let lines = good.tree.lines in
+    let forms = good.spelled.0.lines.forms in
+    let room = section_room profile q name old (subst (λ x. IsFault profile (new_section x) old None) at none) in
+    let put = (section_goes q name manner.newline lines old forms good.good.0 good.facts room (subst (λ (x : Doc). IsInNoValue x.lines q) same outside)).section in
+    let edited' = header_lines q One (child q name) manner.newline lines in
+    let lines_are : edited ≡ edited' =
+    made ∙ ap (λ (x : Doc). header_lines q One p manner.newline x.lines) same ∙ ap (λ x. header_lines q One x manner.newline lines) at in
+    record {
+      comments_in = [];
+      comments_are = refl;
+      edited = edited';
+      forms = section_forms q name manner.newline lines edited' put forms newline;
+      text =
+          text ∙ ap (λ (x : Doc). x.mark.text ++ joined (lines_parts edited)) same
+          ∙ ap (λ ls. good.tree.mark.text ++ joined (lines_parts ls)) lines_are;
+      way = subst (λ x. HasWay (new_section x ∷ []) ([] ∷ []) lines edited') (sym at) (section_way q name manner.newline lines edited' put forms);
+    }
+
 pub plain_goes : (c : Change) → HaveWays c
 plain_goes (set p value) = set_goes p value
 plain_goes (insert p value) = insert_goes p value
 plain_goes (rename p to) = rename_goes p to
 plain_goes (remove p) = remove_goes p
-plain_goes (new_section p) = λ profile manner before after old now newline good none is_after written. absurd written.3
+plain_goes (new_section p) = section_ways p
 plain_goes (new_element p) = λ profile manner before after old now newline good none is_after written. absurd written.3
 
 pub plain_is_carried : PlainIsCarried
