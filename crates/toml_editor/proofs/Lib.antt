@@ -9,6 +9,7 @@ pub mod PlainAnswers
 mod PlainJudged
 pub mod NearFaults
 mod SpelledOne
+mod ParentIs
 mod SourceKept
 mod RenameWritten
 mod EditWritten

@@ -22,6 +22,7 @@ pub mod EmptyNamed
 pub mod EmptyStands
 pub mod Examples
 pub mod ExamplesBelow
+pub mod ExamplesHeaded
 pub mod Exchanged
 pub mod Fitting
 pub mod Follow

@@ -4,12 +4,12 @@ ghost use Rattle.toml_scalar.specs.Spelling.{spelled};
 ghost use Rattle.toml_edits.specs.Drafts.{drafted};
 ghost use Rattle.toml_edits.specs.Edits.{change};
 ghost use Rattle.toml_editor.specs.Edited.{MayBeSpread, TakesLastElement};
-ghost use Rattle.toml_editor.specs.Exact.{IsOnePlace, WritesBelow, WritesEdit, WritesInsert, WritesInside, WritesRename, WritesSet};
+ghost use Rattle.toml_editor.specs.Exact.{IsOnePlace, WritesBelow, WritesEdit, WritesHeader, WritesInsert, WritesInside, WritesRename, WritesSet};
 ghost use Rattle.toml_editor.specs.Made.{MakesEdit, MakesEdits, RefusesEdit, RefusesEdits, places_in};
 ghost use Rattle.toml_editor.specs.Making.{HasNames, IsMade, IsMany, TellsRow};
 ghost use Rattle.toml_editor.specs.SpelledEdits.{AreSpelled, IsSpelled};
 ghost use Rattle.toml_working.specs.Starting.{NoneIsGone, read_of};
-ghost use Rattle.toml_working.specs.Stands.{KeepsRest};
+ghost use Rattle.toml_working.specs.Stands.{KeepsRest, KeepsTexts};
 
 use crate::fault::EditorFault;
 use crate::spelled::Spelled;
@@ -234,8 +234,8 @@ fn write_rename<'x>(
     tree.rename(read.before, named, at, &name, spelling)
 }
 
-/// Puts the header line of a new table, or of a new element, in on the working tree. It answers `false` where it would stand
-/// in a value.
+/// Puts the header line of a new table, or of a new element, in on the working tree; the steps of its address are spelled so. It answers
+/// `false` where it would stand in a value.
 fn write_header<'x>(
     alloc: Global,
     tree: &mut Tree<'x>,
@@ -245,6 +245,9 @@ fn write_header<'x>(
     spelled: &'x Spelled,
 ) -> Result<bool, AllocError>
     requires { HasNames read }
+    ensures rest { OnOk result (KeepsTexts tree.old tree.new) }
+    ensures header { let read_here = read_of read.entry.before in
+        IfOk result (WritesHeader brackets read_here at.now spelled.now.steps.items tree.old tree.new) }
 {
     let parent = parent_of(alloc, at)?;
     let element = innermost_element(alloc, &parent)?;

@@ -14,10 +14,10 @@ abbrev put : List ℕ
 put = 0x66 ∷ 0x20 ∷ 0x3D ∷ 0x20 ∷ 0x39 ∷ 0x0A ∷ []
 
 -- the addresses of the tables `[t]`, the first `[[u]]` and `[u.v]`
-abbrev t : Address
+abbrev pub t : Address
 t = Name (0x74 ∷ []) ∷ []
 
-abbrev u : Address
+abbrev pub u : Address
 u = Name (0x75 ∷ []) ∷ Index 0 ∷ []
 
 abbrev v : Address
@@ -41,11 +41,11 @@ unfolding name_of
 inserted_below_last = refl
 
 -- a last line of no bytes
-abbrev no_bytes : Line
+abbrev pub no_bytes : Line
 no_bytes = record { expr = BlankLine no_tail; newline = empty }
 
 -- in the second of two elements, of which the first has a key: `[[u]]`, `c = 3`, `[[u]]`
-abbrev elements : List Line
+abbrev pub elements : List Line
 elements = ended (ArrayTableLine empty (header (key 0x75)) no_tail) ∷ ended (keyval (key 0x63) (digit 0x33)) ∷ ended (ArrayTableLine empty (header (key 0x75)) no_tail) ∷ no_bytes ∷ []
 
 inserted_in_second : text (insert_in (Name (0x75 ∷ []) ∷ Index 1 ∷ []) (0x66 ∷ []) nine (plain (0x0A ∷ [])) elements) ≡ array ++ third ++ array ++ put

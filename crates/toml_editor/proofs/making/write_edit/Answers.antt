@@ -1,7 +1,7 @@
 use Rattle.std.proofs.Common.{◌∙◌, subst, subst₂}
 use Rattle.std.proofs.lemmas.Result.{IfOk-weaker}
 use Rattle.toml_edits.specs.Edits.{change}
-use Rattle.toml_editor.specs.Exact.{WritesBelow, WritesInsert, WritesInside, WritesSet}
+use Rattle.toml_editor.specs.Exact.{WritesBelow, WritesHeader, WritesInsert, WritesInside, WritesSet}
 use Rattle.toml_working.specs.HeldLines.{TakesFromValue}
 use Rattle.toml_working.specs.RemovingIn.{RemovesLines}
 use Rattle.toml_editor.specs.SpelledEdits.{IsSpelled}
@@ -60,3 +60,29 @@ returns-in-Insert c =
     ))
     (if_ok_with _ _ result c.write_insert.ensures.rest (if_ok_with _ _ result c.write_insert.ensures.insert
     (if_ok_and _ _ result c.write_insert.ensures.inside c.write_insert.ensures.below))))
+
+pub returns-in-Section : goal.returns-in-Section
+returns-in-Section c =
+    let read = read_of c.args.read.before in
+    let old = c.args.tree.now in
+    let new = c.write_header.new.tree in
+    let result = c.write_header.result in
+    let steps = c.args.spelled.now.steps.items in
+    let spelled = subst (λ e. IsSpelled (change e) c.args.spelled.now) c.in-Section.is c.requires.spelled in
+    edit_written result c.args.read.profile read old new c.in_ok-at.at _ _ c.in-Section.is (λ whole. c.in_ok-at.ensures whole ∙ c.place.ensures)
+    (λ at. IfOk-weaker result _ _
+    (λ done made whole. (steps, spelled, made.0, subst (λ a. WritesHeader One read a steps old new done) (at whole) made.1))
+    (if_ok_with _ _ result c.write_header.ensures.rest c.write_header.ensures.header))
+
+pub returns-in-Element : goal.returns-in-Element
+returns-in-Element c =
+    let read = read_of c.args.read.before in
+    let old = c.args.tree.now in
+    let new = c.write_header-in-Element.new.tree in
+    let result = c.write_header-in-Element.result in
+    let steps = c.args.spelled.now.steps.items in
+    let spelled = subst (λ e. IsSpelled (change e) c.args.spelled.now) c.in-Element.is c.requires.spelled in
+    edit_written result c.args.read.profile read old new c.in_ok-at.at _ _ c.in-Element.is (λ whole. c.in_ok-at.ensures whole ∙ c.place.ensures)
+    (λ at. IfOk-weaker result _ _
+    (λ done made whole. (steps, spelled, made.0, subst (λ a. WritesHeader Two read a steps old new done) (at whole) made.1))
+    (if_ok_with _ _ result c.write_header-in-Element.ensures.rest c.write_header-in-Element.ensures.header))
