@@ -10,6 +10,10 @@ pub mod Certify
 pub mod Clear
 pub mod Closed
 pub mod CountedAlike
+pub mod InTurn
+pub mod HeaderLeads
+pub mod CountedArrays
+pub mod Counted
 pub mod Deep
 pub mod DocumentSections
 pub mod ElementHeaded

@@ -4,7 +4,7 @@ use Rattle.std.specs.Prelude.{◌==◌, ◌-◌, if◌then◌else◌}
 use Rattle.toml_tree.specs.Tree.{Expr, BlankLine, KeyValLine, TableLine, ArrayTableLine, Line}
 use Rattle.toml_names.specs.declared.mentions.mention.Role.TheVariants.{Element, Passed, Tables}
 use Rattle.toml_names.specs.mentions.Alike.{AreAlike}
-use Rattle.toml_names.specs.mentions.Keys.{Key, key_names}
+use Rattle.toml_names.specs.mentions.Keys.{Key, key_names, part_name, rest_names}
 use Rattle.toml_names.specs.mentions.Mentions.{Named, an_array, count_tables, ends_table, ends_tables, entered, followed, named_by, section_from, table_at}
 use Rattle.toml_names.specs.mentions.OwnAddresses.{IsHeaderLine}
 use Rattle.toml_names.specs.model.Addresses.{Address, child, element}
@@ -77,9 +77,9 @@ header_section : (xs : List Named) (line : ℕ) (e : Expr) → IsHeaderLine e �
 header_section xs line (BlankLine t) is a b = absurd is
 header_section xs line (KeyValLine ws pair tail) is a b = absurd is
 header_section xs line (TableLine ws header tail) is a b =
-    section_followed xs line (ends_table line) (λ at x y. refl) _ _ [] a b
+    section_followed xs line (ends_table line) (λ at x y. refl) (part_name header.key.first) (rest_names header.key.rest) [] a b
 header_section xs line (ArrayTableLine ws header tail) is a b =
-    section_followed xs line (ends_tables line xs) (λ at x y. refl) _ _ [] a b
+    section_followed xs line (ends_tables line xs) (λ at x y. refl) (part_name header.key.first) (rest_names header.key.rest) [] a b
 
 pub header_alike : (xs ys : List Named) → AreCounted xs ys → (line : ℕ) (e : Expr) → IsHeaderLine e
     → AreAlike (xs ++ named_by xs line e) (ys ++ named_by ys line e)
@@ -110,8 +110,8 @@ stand_counted (l ∷ ls) xs ys n m same unkeyed = by l.expr refl unkeyed (λ cou
     Goal : Expr → Type 0
     Goal e = standing_from xs n (record { expr = e; newline = l.newline } ∷ ls) ≡ standing_from ys m (record { expr = e; newline = l.newline } ∷ ls)
 
-    header : (e : Expr) → IsHeaderLine e → Goal e
-    header e is =
+    headed : (e : Expr) → IsHeaderLine e → Goal e
+    headed e is =
         ap₂ (λ a t. record { address = a; base = line_base xs e; outline = line_outline (record { expr = e; newline = l.newline }) } ∷ t) (header_owned xs ys same e is)
         (stand_alike ls (xs ++ named_by xs n e) (ys ++ named_by ys m e) (n + 1) (m + 1)
         (alike_trans _ (ys ++ named_by ys n e) _ (header_alike xs ys same n e is) (step_alike ys ys n m e (alike_self ys))))
@@ -124,7 +124,8 @@ stand_counted (l ∷ ls) xs ys n m same unkeyed = by l.expr refl unkeyed (λ cou
         → standing_from xs n (l ∷ ls) ≡ standing_from ys m (l ∷ ls)
     by (BlankLine b) is none more =
         let counted : AreCounted (xs ++ []) (ys ++ []) = λ at. ap (λ ms. count_tables ms at) (append-nil xs) ∙ same at ∙ ap (λ ms. count_tables ms at) (sym (append-nil ys)) in
-        subst Goal (sym is) (ap (λ t. _ ∷ t) (more counted none))
+        subst Goal (sym is)
+        (ap (λ t. record { address = None; base = None; outline = line_outline (record { expr = BlankLine b; newline = l.newline }) } ∷ t) (more counted none))
     by (KeyValLine ws pair tail) is none more = absurd (true≢false none)
-    by (TableLine ws header tail) is none more = subst Goal (sym is) (header (TableLine ws header tail) tt)
-    by (ArrayTableLine ws header tail) is none more = subst Goal (sym is) (header (ArrayTableLine ws header tail) tt)
+    by (TableLine ws header tail) is none more = subst Goal (sym is) (headed (TableLine ws header tail) tt)
+    by (ArrayTableLine ws header tail) is none more = subst Goal (sym is) (headed (ArrayTableLine ws header tail) tt)

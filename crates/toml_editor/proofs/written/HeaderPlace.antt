@@ -84,10 +84,11 @@ below_is : (e : Address) (base : Option ℕ) (own : Option Address) → heads_be
 below_is e (Some n) own is = absurd (true≢false (sym is))
 below_is e None None is = absurd (true≢false (sym is))
 below_is e None (Some a) is =
-    (a, refl, begins_at e a (elim (begins_is e a is) [
+    let (rest, at) = begins_at e a (elim (begins_is e a is) [
       | inl same ↦ inl (sym same)
       | inr above ↦ inr above
-    ]))
+    ]) in
+    (a, refl, rest, at)
 
 module _ (q : Address) (name style : List ℕ) (lines : List Line) where
   abbrev p : Address
@@ -171,14 +172,14 @@ module _ (q : Address) (name style : List ℕ) (lines : List Line) where
         let before = lines_of it.front in
         let last = it.last.0 in
         let are = parts it.front (it.last ∷ []) lines [] it.was in
-        let open = last_open before last (subst AreLines are.lines forms) in
+        let opened = last_open before last (subst AreLines are.lines forms) in
         let front = before ++ last ∷ [] in
         let closed = before ++ ended style last ∷ [] in
         let owned = leads front [] (are.lines ∙ sym (append-nil front)) (subst IsReached are.lines reached) in
         let names : named closed ≡ named front = named_next before (ended style last) ∙ sym (named_next before last) in
         let owned_closed : own_address (named closed) (header_expr One p []) ≡ Some p = ap (λ ms. own_address ms (header_expr One p [])) names ∙ owned in
         let is : line_at_end h style lines ≡ before ++ ended style last ∷ h [] ∷ [] =
-        ap (line_at_end h style) (sym (shown_lines lines (root ∷ []) 0)) ∙ it.lines ∙ ap (λ t. before ++ line_behind_last h style last t) open in
+        ap (line_at_end h style) (sym (shown_lines lines (root ∷ []) 0)) ∙ it.lines ∙ ap (λ t. before ++ line_behind_last h style last t) opened in
         let here : line_stands (named before) last ≡ it.last.1 = (let x = are.back_stands in cc) in
         let ends : line_stands (named before) (ended style last) ≡ end_in style it.last.1 =
         ap (λ o. record { address = own_address (named before) last.expr; base = line_base (named before) last.expr; outline = o }) (ends_same last.expr last.newline (ended style last).newline)
@@ -189,7 +190,7 @@ module _ (q : Address) (name style : List ℕ) (lines : List Line) where
             back = [];
             ws = [];
             spaced = λ are'. tt;
-            put = inr (record { before = before; last = last; front_is = refl; none = refl; full = it.full; open = open; was = are.lines; is = is });
+            put = inr (record { before = before; last = last; front_is = refl; none = refl; full = it.full; «open» = opened; was = are.lines; is = is });
             leads = owned;
             unkeyed = refl;
           };
@@ -198,7 +199,7 @@ module _ (q : Address) (name style : List ℕ) (lines : List Line) where
               ∙ put_stands p closed [] [] [] owned_closed refl
               ∙ ap (λ s. s ++ new [] ∷ []) (stand_append before (ended style last ∷ []) [] ∙ ap₂ (λ a b. a ++ b ∷ []) are.front_stands ends)
               ∙ append_assoc (stand_of it.front) (end_in style it.last.1 ∷ []) (new [] ∷ [])
-              ∙ sym (ap (put_at_text_end new style) (sym (shown_stands lines (root ∷ []) 0)) ∙ it.stands ∙ ap (λ t. stand_of it.front ++ put_after new style it.last.1 t) open);
+              ∙ sym (ap (put_at_text_end new style) (sym (shown_stands lines (root ∷ []) 0)) ∙ it.stands ∙ ap (λ t. stand_of it.front ++ put_after new style it.last.1 t) opened);
         }
 
     end_put : IsReached lines → IsPutPlainly (line_at_end h style lines) (put_at_text_end new style (standing lines))

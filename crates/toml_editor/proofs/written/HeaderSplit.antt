@@ -59,7 +59,7 @@ module _ (h : Line) (new : Standing) where
     stand : before_header new (stand_of xs) ≡ None
     headless : EachIs IsHeadlessShown xs
 
-  parted_later : (x : Shown) (xs : List Shown) (put : Option (List Line)) (stand : Option (List Standing)) → IsParted xs put stand
+  abbrev parted_later : (x : Shown) (xs : List Shown) (put : Option (List Line)) (stand : Option (List Standing)) → IsParted xs put stand
       → IsParted (x ∷ xs) (option_map (λ r. x.0 ∷ r) put) (option_map (λ r. x.1 ∷ r) stand)
   parted_later x xs put stand p = record {
     front = x ∷ p.front;
@@ -71,7 +71,7 @@ module _ (h : Line) (new : Standing) where
     stands = ap (option_map (λ r. x.1 ∷ r)) p.stands;
   }
 
-  parted_as : (xs : List Shown) (put put' : Option (List Line)) (stand stand' : Option (List Standing)) → put' ≡ put → stand' ≡ stand → (p : IsParted xs put stand)
+  abbrev parted_as : (xs : List Shown) (put put' : Option (List Line)) (stand stand' : Option (List Standing)) → put' ≡ put → stand' ≡ stand → (p : IsParted xs put stand)
       → IsParted xs put' stand'
   parted_as xs put put' stand stand' e f p =
       record { front = p.front; head = p.head; rest = p.rest; was = p.was; heads = p.heads; lines = e ∙ p.lines; stands = f ∙ p.stands }
