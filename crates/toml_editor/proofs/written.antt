@@ -78,6 +78,7 @@ pub mod Together
 pub mod UnitsAlike
 pub mod UnitsCarried
 pub mod UnitsGone
+pub mod UnitsHeaded
 pub mod UnitsIn
 pub mod UnitsListed
 pub mod UnitsPut
