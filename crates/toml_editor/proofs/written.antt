@@ -93,6 +93,7 @@ pub mod WayBlock
 pub mod WayComments
 pub mod WayEmptied
 pub mod WayFits
+pub mod WayHeaded
 pub mod WayHeld
 pub mod WayKeeps
 pub mod WayKept
