@@ -90,6 +90,7 @@ pub mod Together
 pub mod UnitsAlike
 pub mod UnitsCarried
 pub mod UnitsGone
+pub mod UnitsHeaded
 pub mod UnitsIn
 pub mod UnitsListed
 pub mod UnitsPut
@@ -104,6 +105,7 @@ pub mod WayBlock
 pub mod WayComments
 pub mod WayEmptied
 pub mod WayFits
+pub mod WayHeaded
 pub mod WayHeld
 pub mod WayKeeps
 pub mod WayKept

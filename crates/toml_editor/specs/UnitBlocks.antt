@@ -1,6 +1,7 @@
 -- Laws of the units after the `insert` and the `remove` of a line: one block more, or one less, between two lines. The newline of a line is
 -- in no unit. All other units are as they were, with their pieces: a piece of edited lines has the place that it had before.
 use Rattle.std.specs.Prelude.{◌≡◌, ◌<◌, ℕ, List, [], ◌∷◌, ◌++◌, Option, Some, None, length}
+use Rattle.std.specs.List.{join_by}
 use Rattle.toml_scalar.specs.Spelling.{spelled}
 use Rattle.toml_tree.specs.Bare.{fresh}
 use Rattle.toml_tree.specs.Spells.{joined, value_parts, AreLines}
@@ -11,6 +12,7 @@ use Rattle.toml_names.specs.model.Addresses.{Address, child}
 use Rattle.toml_units.specs.declared.unit.UnitKind.TheVariants as kinds
 use Rattle.toml_units.specs.Units.{TextUnit, inside, comment_units, units}
 use Rattle.toml_layout.specs.declared.layout.Layout.TheVariants as layouts
+use Rattle.toml_working.specs.Headers.{names_of}
 use Rattle.toml_working.specs.Inserting.{insert_in}
 use Rattle.toml_working.specs.Manners.{Manner}
 use Rattle.toml_working.specs.Removing.{empty_table, remove_lines}
@@ -23,6 +25,10 @@ use Rattle.toml_working.specs.Written.{HasSection}
 abbrev pub pair_line_units : Piece → Address → ℕ → Value → Option Piece → List TextUnit
 pair_line_units piece at base v comment =
     record { kind = kinds.Line; piece = piece; address = Some at; base = Some base } ∷ (inside at v ++ comment_units kinds.TailComment (Some at) comment)
+
+-- a header line without a comment: the line alone
+abbrev pub header_line_units : Piece → Address → List TextUnit
+header_line_units piece at = record { kind = kinds.Line; piece = piece; address = Some at; base = None } ∷ []
 
 -- a line of no bytes
 abbrev pub line_of_nothing : TextUnit
@@ -57,6 +63,10 @@ pub record IsBlockTaken (old block new : List TextUnit) : Type 0 where
 -- the bytes of a new line with this whitespace, but for its newline
 abbrev pub pair_text : Spacing → List ℕ → Value → List ℕ
 pair_text s name v = s.ws ++ (spelled name ++ (s.before_equals ++ 0x3D ∷ (s.after_equals ++ joined (value_parts v))))
+
+-- the bytes of a new section's header line with this whitespace, but for its newline: the names, spelled, with `.` between them
+abbrev pub header_text : List ℕ → Address → List ℕ
+header_text ws p = ws ++ 0x5B ∷ (join_by spelled (0x2E ∷ []) (names_of p) ++ 0x5D ∷ [])
 
 -- Law: the units of the new lines are those of the old ones and those of the new line, which has some whitespace, in layout `Plain` that of
 -- ` = `.

@@ -89,6 +89,70 @@ put_behind Formed us old block new before after newline one some h =
     ends zero low = inl refl
     ends (suc a) low = elim (h.front_ends a (omega (arith, low))) [ inl is ↦ inl is | inr last ↦ inr (omega (arith, last)) ]
 
+-- ---- the units of one line more, whatever stands on it
+
+-- before lines that have the same units behind it
+pub put_before : (Formed : Type 0) (e : Expr) (block : List TextUnit) (xs : List Named) (n m : ℕ) (ls : List Line) (ending : List ℕ)
+    → line_units xs e ≡ block → units_from xs n ls ≡ units_from (xs ++ named_by xs m e) (m + 1) ls
+    → IsPutWell Formed (units_from xs n ls) block (line_units xs e ++ units_from (xs ++ named_by xs m e) (m + 1) ls)
+    (newlines ls) (ending ∷ newlines ls)
+put_before Formed e block xs n m ls ending own same = record {
+  put = record {
+    front = [];
+    back = units_from xs n ls;
+    before = refl;
+    after = ap₂ (λ t u. t ++ u) own (sym same);
+    next = lines_first ls xs n;
+  };
+  front_ends = λ a low. let e : ⊥ = omega (arith, low) in absurd e;
+  back_ends = λ a. ap (slice_get (newlines ls)) (let e : 0 + a ≡ a = omega arith in e) ∙ ap (slice_get (ending ∷ newlines ls)) (let e : suc a ≡ 0 + suc a = omega arith in e);
+  full = λ formed none. tt;
+}
+
+-- behind a last line, which gets a newline
+pub put_last : (Formed : Type 0) (l : Line) (e : Expr) (block : List TextUnit) (xs : List Named) (n : ℕ) (ending : List ℕ)
+    → line_units (xs ++ named_by xs n l.expr) e ≡ block → (Formed → LastIsFull (line_units xs l.expr))
+    → IsPutWell Formed (line_units xs l.expr ++ []) block (line_units xs l.expr ++ (line_units (xs ++ named_by xs n l.expr) e ++ []))
+    (l.newline.text ∷ []) (ending ∷ [] ∷ [])
+put_last Formed l e block xs n ending own full = record {
+  put = record {
+    front = line_units xs l.expr;
+    back = [];
+    before = refl;
+    after = ap (λ b. line_units xs l.expr ++ (b ++ [])) own;
+    next = tt;
+  };
+  front_ends = λ a low. let one = line_lines xs l.expr in inr (omega (arith, low, one));
+  back_ends = λ a. ap (slice_get (l.newline.text ∷ [])) (count a) ∙ ap (slice_get (ending ∷ [] ∷ [])) (sym (count (suc a)));
+  full = λ formed none. full formed;
+}
+  where
+    count : (a : ℕ) → lines_in (line_units xs l.expr) + a ≡ suc a
+    count a = let one = line_lines xs l.expr in omega (arith, one)
+
+-- where it is put in so behind what was named before, and with some lines, it is behind all lines in front
+module _ (Formed : Type 0) (block : List TextUnit) (l : Line) (back new some : List Line) (Here : List Named → Type 0)
+    (here : (xs : List Named) (n : ℕ) → Here (named_from xs n some)
+    → IsPutWell Formed (units_from xs n (l ∷ back)) block (units_from xs n new) (newlines (l ∷ back)) (newlines new)) where
+  some_units : (front : List Line) (xs : List Named) (n : ℕ) → 0 < lines_in (units_from xs n (front ++ l ∷ back))
+  some_units [] xs n = some_lines xs n l back
+  some_units (m ∷ front) xs n = some_lines xs n m (front ++ l ∷ back)
+
+  pub put_among : (front : List Line) (xs : List Named) (n : ℕ) → Here (named_from xs n (front ++ some))
+      → IsPutWell Formed (units_from xs n (front ++ l ∷ back)) block (units_from xs n (front ++ new)) (newlines (front ++ l ∷ back)) (newlines (front ++ new))
+  put_among [] xs n there = here xs n there
+  put_among (m ∷ front) xs n there =
+      put_behind Formed (line_units xs m.expr) _ block _ (newlines (front ++ l ∷ back)) (newlines (front ++ new)) m.newline.text (line_lines xs m.expr)
+      (some_units front (xs ++ named_by xs n m.expr) (n + 1)) (put_among front (xs ++ named_by xs n m.expr) (n + 1) there)
+
+-- the lines in the forms are formed
+pub formed_well : (Formed Other : Type 0) (old new block : List TextUnit) (before after : List (List ℕ)) → (Other → Formed) → IsPutWell Formed old block new before after
+    → IsPutWell Other old block new before after
+formed_well Formed Other old new block before after from well =
+    record { put = well.put; front_ends = well.front_ends; back_ends = well.back_ends; full = λ formed none. well.full (from formed) none }
+
+-- ---- of the line of an `insert`
+
 module _ (q : Address) (name : List ℕ) (v : Value) where
   abbrev pub block : Spacing → List TextUnit
   block s = pair_line_units (fresh (pair_text s name v)) (child q name) (length q) v None
@@ -106,68 +170,27 @@ module _ (q : Address) (name : List ℕ) (v : Value) where
 
   put_first : (Formed : Type 0) (s : Spacing) (xs : List Named) (n m : ℕ) (ls : List Line) (ending : List ℕ) → section xs ≡ q
       → IsPutWell Formed (units_from xs n ls) (block s) (line_units xs (new_expr s name v) ++ units_from (xs ++ named_by xs m (new_expr s name v)) (m + 1) ls) (newlines ls) (ending ∷ newlines ls)
-  put_first Formed s xs n m ls ending there = record {
-    put = record {
-      front = [];
-      back = units_from xs n ls;
-      before = refl;
-      after = ap₂ (λ t u. t ++ u) (new_units s xs there) (sym (units_alike ls xs (xs ++ named_by xs m (new_expr s name v)) n (m + 1) (alike_pair xs xs (alike_self xs) m (section xs) (new_assign s name) v)));
-      next = lines_first ls xs n;
-    };
-    front_ends = λ a low. let e : ⊥ = omega (arith, low) in absurd e;
-    back_ends = λ a. ap (slice_get (newlines ls)) (let e : 0 + a ≡ a = omega arith in e) ∙ ap (slice_get (ending ∷ newlines ls)) (let e : suc a ≡ 0 + suc a = omega arith in e);
-    full = λ formed none. tt;
-  }
+  put_first Formed s xs n m ls ending there =
+      put_before Formed (new_expr s name v) (block s) xs n m ls ending (new_units s xs there)
+      (units_alike ls xs (xs ++ named_by xs m (new_expr s name v)) n (m + 1) (alike_pair xs xs (alike_self xs) m (section xs) (new_assign s name) v))
 
   module _ (manner : Manner) (s : Spacing) (l : Line) (keyed : IsFull l.expr) where
     abbrev Well : List TextUnit → List TextUnit → List (List ℕ) → List (List ℕ) → Type 0
     Well old new = IsPutWell (IsExpr l.expr) old (block s) new
 
-    -- the last line gets a newline
-    put_end : (xs : List Named) (n : ℕ) → section (xs ++ named_by xs n l.expr) ≡ q
-        → Well (line_units xs l.expr ++ []) (line_units xs l.expr ++ (line_units (xs ++ named_by xs n l.expr) (new_expr s name v) ++ [])) (l.newline.text ∷ []) (manner.newline ∷ [] ∷ [])
-    put_end xs n there = record {
-      put = record {
-        front = line_units xs l.expr;
-        back = [];
-        before = refl;
-        after = ap (λ b. line_units xs l.expr ++ (b ++ [])) (new_units s (xs ++ named_by xs n l.expr) there);
-        next = tt;
-      };
-      front_ends = λ a low. let one = line_lines xs l.expr in inr (omega (arith, low, one));
-      back_ends = λ a. ap (slice_get (l.newline.text ∷ [])) (count a) ∙ ap (slice_get (manner.newline ∷ [] ∷ [])) (sym (count (suc a)));
-      full = λ formed none. full_line xs l.expr keyed formed;
-    }
-      where
-        count : (a : ℕ) → lines_in (line_units xs l.expr) + a ≡ suc a
-        count a = let one = line_lines xs l.expr in omega (arith, one)
-
-    put_line : (xs : List Named) (n : ℕ) (ls : List Line) → section (xs ++ named_by xs n l.expr) ≡ q
+    put_line : (ls : List Line) (xs : List Named) (n : ℕ) → section (xs ++ named_by xs n l.expr) ≡ q
         → Well (units_from xs n (l ∷ ls)) (units_from xs n (line_put s name v manner l ls)) (newlines (l ∷ ls)) (newlines (line_put s name v manner l ls))
-    put_line xs n [] there = put_end xs n there
-    put_line xs n (m ∷ ms) there =
+    put_line [] xs n there =
+        put_last (IsExpr l.expr) l (new_expr s name v) (block s) xs n manner.newline (new_units s (xs ++ named_by xs n l.expr) there) (full_line xs l.expr keyed)
+    put_line (m ∷ ms) xs n there =
         put_behind (IsExpr l.expr) (line_units xs l.expr) (units_from (xs ++ named_by xs n l.expr) (n + 1) (m ∷ ms)) (block s) _ (newlines (m ∷ ms))
         (manner.newline ∷ newlines (m ∷ ms)) l.newline.text (line_lines xs l.expr) (some_lines (xs ++ named_by xs n l.expr) (n + 1) m ms)
         (put_first (IsExpr l.expr) s (xs ++ named_by xs n l.expr) (n + 1) (n + 1) (m ∷ ms) manner.newline there)
 
-    some_units : (front back : List Line) (xs : List Named) (n : ℕ) → 0 < lines_in (units_from xs n (front ++ l ∷ back))
-    some_units [] back xs n = some_lines xs n l back
-    some_units (m ∷ front) back xs n = some_lines xs n m (front ++ l ∷ back)
-
     put_at : (front back : List Line) (xs : List Named) (n : ℕ) → section (named_from xs n (front ++ l ∷ [])) ≡ q
         → Well (units_from xs n (front ++ l ∷ back)) (units_from xs n (front ++ line_put s name v manner l back)) (newlines (front ++ l ∷ back))
         (newlines (front ++ line_put s name v manner l back))
-    put_at [] back xs n there = put_line xs n back there
-    put_at (m ∷ front) back xs n there =
-        put_behind (IsExpr l.expr) (line_units xs m.expr) _ (block s) _ (newlines (front ++ l ∷ back)) (newlines (front ++ line_put s name v manner l back)) m.newline.text
-        (line_lines xs m.expr) (some_units front back (xs ++ named_by xs n m.expr) (n + 1))
-        (put_at front back (xs ++ named_by xs n m.expr) (n + 1) there)
-
-  -- the lines in the forms are formed
-  formed_well : (Formed Other : Type 0) (old new block : List TextUnit) (before after : List (List ℕ)) → (Other → Formed) → IsPutWell Formed old block new before after
-      → IsPutWell Other old block new before after
-  formed_well Formed Other old new block before after from well =
-      record { put = well.put; front_ends = well.front_ends; back_ends = well.back_ends; full = λ formed none. well.full (from formed) none }
+    put_at front back = put_among (IsExpr l.expr) (block s) l back (line_put s name v manner l back) (l ∷ []) (λ xs. section xs ≡ q) (put_line back) front
 
   abbrev pub IsPutIn : Manner → List Line → List Line → Type 0
   IsPutIn manner lines new = (s : Spacing) × (manner.layout ≡ layouts.Plain → s ≡ plain_spacing)

@@ -1,7 +1,7 @@
--- The way of an `insert`.
-use Rattle.std.proofs.Common.{◌≡◌, ◌⊎◌, inl, inr, ◌<◌, ◌+◌, ℕ, suc, Option, Some, None, List, [], ◌∷◌, ◌++◌, map, length, refl, sym, ap, ap₂, ◌∙◌, subst, subst₂, true≢false, arith, append-nil}
+-- The way of an edit that puts a line in, and so of an `insert`.
+use Rattle.std.proofs.Common.{◌≡◌, ◌⊎◌, inl, inr, ◌<◌, ◌≤◌, ◌+◌, ℕ, suc, false, Option, Some, None, List, [], ◌∷◌, ◌++◌, map, length, refl, sym, ap, ap₂, ◌∙◌, subst, subst₂, true≢false, arith, append-nil}
 use Rattle.std.specs.Prelude.{slice_get, option_and_then}
-use Rattle.toml_tree.specs.Bare.{fresh}
+use Rattle.std.specs.List.{flat_map}
 use Rattle.toml_tree.specs.Spells.{AreLines, EachIs}
 use Rattle.toml_tree.specs.Tree.{Value, Line}
 use Rattle.toml_names.specs.model.Addresses.{Address, child}
@@ -10,7 +10,7 @@ use Rattle.toml_edits.specs.Edits.{Change, insert}
 use Rattle.toml_units.specs.declared.unit.UnitKind.TheVariants as kinds
 use Rattle.toml_units.specs.Units.{TextUnit, inside, units}
 use Rattle.toml_checker.specs.CarriedTo.{At}
-use Rattle.toml_checker.specs.Comments.{texts}
+use Rattle.toml_checker.specs.Comments.{is_comment, texts, times}
 use Rattle.toml_checker.specs.Owed.{IsOwed}
 use Rattle.toml_checker.specs.Plain.{Site}
 use Rattle.toml_working.specs.Inserting.{insert_in}
@@ -18,25 +18,174 @@ use Rattle.toml_working.specs.Manners.{Manner}
 use Rattle.toml_layout.specs.Spacings.{Spacing}
 use Rattle.toml_working.specs.Written.{HasSection}
 use Rattle.toml_working.specs.Together.{GoTogether}
-use Rattle.toml_editor.specs.UnitBlocks.{BeginWithLine, pair_line_units, pair_text}
+use Rattle.toml_editor.specs.UnitBlocks.{BeginWithLine}
 use Rattle.toml_editor.proofs.Each.{each_append}
 use Rattle.toml_editor.proofs.written.InsertKept.{inserted_on}
-use Rattle.toml_editor.proofs.written.Way.{both, new, olds, news, one_line}
+use Rattle.toml_editor.proofs.written.Way.{Step, both, new, olds, news, one_line, is_here}
 use Rattle.toml_editor.proofs.written.WayBlock.{line_after, olds_append, news_append, added_append, fits_append, new_fits, new_olds, new_news, new_adds, lines_append, inside_lines, same_comments, inside_asked}
 use Rattle.toml_editor.proofs.written.WayComments.{added, comments}
-use Rattle.toml_editor.proofs.written.WayFits.{Matches, IsAsked, SameNewline, newlines}
+use Rattle.toml_editor.proofs.written.WayFits.{Fits, Matches, IsAsked, SameNewline, newlines}
 use Rattle.toml_editor.proofs.written.WayRenamed.{zip_adds}
 use Rattle.toml_editor.proofs.written.WayKeeps.{ComesBlank, Keeps, next_after}
-use Rattle.toml_editor.proofs.written.WayKept.{IsFixed, insert_header, same_way, same_keeps, same_olds, same_news, new_keeps, inner_blank, keeps_append, count_lines}
+use Rattle.toml_editor.proofs.written.WayKept.{HeaderIsOwed, IsFixed, insert_header, same_way, same_keeps, same_olds, same_news, new_keeps, inner_blank, keeps_append, count_lines}
 use Rattle.toml_editor.proofs.written.UnitsGone.{value_in}
 use Rattle.toml_names.specs.mentions.Mentions.{root}
 use Rattle.toml_editor.proofs.written.WayWhole.{HasWay, as_many}
 use Rattle.toml_editor.proofs.written.WayZip.{IsNear, lost_line, no_comment_lost, carried_to, zip, lines_in, zip_olds, zip_news, zip_fits}
-use Rattle.toml_editor.proofs.written.UnitsPut.{IsPutWell, puts_lines}
+use Rattle.toml_editor.proofs.written.UnitsPut.{IsPutWell, block, puts_lines}
 
 pub all_same : (us : List TextUnit) → GoTogether (λ u w. u ≡ w) us us
 all_same [] = tt
 all_same (u ∷ us) = (refl, all_same us)
+
+-- ---- of any edit that puts a line in, with what lies in it, and carries all others to themselves
+
+-- what such an edit has
+pub record PutsLine (c : Change) (ts : List (List ℕ)) (block : List TextUnit) : Type 0 where
+  pub stays : (a : Address) → carry c a ≡ Some a
+  pub lost : (line : Option Site) (u : TextUnit) → is_here (c ∷ []) line u ≡ false
+      → (u.kind ≡ kinds.Line → At u.address (IsOwed (c ∷ []))) × (is_comment u.kind ≡ false)
+  pub header : (u : TextUnit) → HeaderIsOwed c u u
+  pub asked : (before after : List (List ℕ)) → EachIs (λ w. (k : ℕ) → IsAsked (c ∷ []) (ts ∷ []) before after k w) block
+  pub one : lines_in block ≡ 1
+  pub texts_are : texts (comments block) ≡ ts
+
+-- the way gives pairs
+pub record HasPairs (cs : List Change) (written : List (List (List ℕ))) (lines edited : List Line) (way : List Step) : Type 0 where
+  pub olds_are : olds way ≡ units lines
+  pub news_are : news way ≡ units edited
+  pub fits : Fits cs written (newlines lines) (newlines edited) None 0 0 way
+  pub comments_few : (t : List ℕ) → times t (texts (comments (added way))) ≤ times t (flat_map (λ ts. ts) written)
+
+module _ (c : Change) (ts : List (List ℕ)) (block : List TextUnit) (puts : PutsLine c ts block) where
+  stays_at : (o : Option Address) → o ≡ option_and_then (carry c) o
+  stays_at None = refl
+  stays_at (Some x) = sym (puts.stays x)
+
+  matches : (before after : List (List ℕ)) (line : Option Site) (a b : ℕ) (u w : TextUnit) → u ≡ w → (u.kind ≡ kinds.Line → SameNewline (c ∷ []) (ts ∷ []) before after a b)
+      → Matches (c ∷ []) (ts ∷ []) before after line a b u w
+  matches before after line a b u w is same = subst (Matches (c ∷ []) (ts ∷ []) before after line a b u) is (record {
+    kind = refl;
+    kept = λ here. record {
+      text = refl;
+      address = carried_to c u.address u.address (stays_at u.address) (λ x at. (x, puts.stays x));
+      newline = same;
+    };
+    lost = puts.lost line u;
+  })
+
+  all_fixed : (us : List TextUnit) → EachIs (IsFixed c) us
+  all_fixed [] = tt
+  all_fixed (u ∷ us) = ((stays_at u.address, puts.header u), all_fixed us)
+
+  -- the block comes, all else goes along
+  abbrev pub put_steps : {Formed : Type 0} {us ws : List TextUnit} {before after : List (List ℕ)} → IsPutWell Formed us block ws before after → List Step
+  put_steps well = zip well.put.front well.put.front ++ (map new block ++ zip well.put.back well.put.back)
+
+  some_lines : (us : List TextUnit) → BeginWithLine us → (us ≡ []) ⊎ (0 < lines_in us)
+  some_lines [] line = inl refl
+  some_lines (u ∷ us) line = let e : one_line u.kind ≡ 1 = ap one_line line in inr (omega (arith, e))
+
+  put_keeps : {Formed : Type 0} {before after : List (List ℕ)} {us ws : List TextUnit} (formed : Formed) (well : IsPutWell Formed us block ws before after)
+      → EachIs (ComesBlank (c ∷ []) before after) block → lines_in us ≡ length before → lines_in ws ≡ length after
+      → Keeps (c ∷ []) before after None None 0 0 (put_steps well)
+  put_keeps {Formed} {before} {after} formed well blank old_count new_count =
+      let front = well.put.front in
+      let back = well.put.back in
+      let n = lines_in front in
+      let olds_head = ap lines_in (same_olds front) in
+      let news_head = ap lines_in (same_news front) in
+      let olds_block = ap lines_in (new_olds block) in
+      let news_block = ap lines_in (new_news block) in
+      let old_total : n + lines_in back ≡ length before = sym (lines_append front back) ∙ ap lines_in (sym well.put.before) ∙ old_count in
+      let new_total : n + (1 + lines_in back) ≡ length after =
+      (let a = lines_append front (block ++ back) in let b = lines_append block back in let d = ap lines_in well.put.after in omega
+      (arith, a, b, d, puts.one, new_count)) in
+      subst₂ (λ x y. Keeps (c ∷ []) before after None None 0 0 (x ++ (map new block ++ y))) (sym (zip_same front)) (sym (zip_same back))
+      (keeps_append c before after (same_way front) (map new block ++ same_way back) None None 0 0
+      (same_keeps c before after front (all_fixed front) None None (inl refl) 0 0
+      (λ x low. record {
+        newline = let e : x ≡ 0 + x = omega arith in subst (λ k. (slice_get before k ≡ slice_get after k) ⊎ (k + 1 ≡ length before)) e
+            (well.front_ends x low);
+        last = λ h. let f : ⊥ = omega (arith, low, h, new_total) in absurd f;
+      })
+      (elim (some_lines back well.put.next) [
+        | inl none ↦ inr (well.full formed none, omega (arith, old_total))
+        | inr some ↦ inl (λ x low h. let f : ⊥ = omega (arith, some, low, h, old_total) in absurd f)
+      ]))
+      (keeps_append c before after (map new block) (same_way back) (line_after None (same_way front)) (next_after None (same_way front))
+      (0 + lines_in (olds (same_way front))) (0 + lines_in (news (same_way front)))
+      (new_keeps c before after block blank (line_after None (same_way front)) (next_after None (same_way front))
+      (0 + lines_in (olds (same_way front))) (0 + lines_in (news (same_way front))))
+      (subst₂ (λ x y. Keeps (c ∷ []) before after (line_after (line_after None (same_way front)) (map new block))
+      (next_after (next_after None (same_way front)) (map new block)) x y (same_way back))
+      (let e : n ≡ (0 + lines_in (olds (same_way front))) + lines_in (olds (map new block)) = omega (arith, olds_head, olds_block) in e)
+      (let e : n + 1 ≡ (0 + lines_in (news (same_way front))) + lines_in (news (map new block)) = omega
+      (arith, news_head, news_block, puts.one) in e)
+      (same_keeps c before after back (all_fixed back) (line_after (line_after None (same_way front)) (map new block))
+      (next_after (next_after None (same_way front)) (map new block)) (inr well.put.next) n (n + 1)
+      (λ x low. record {
+        newline = inl (well.back_ends x ∙ ap (slice_get after) (let e : n + suc x ≡ (n + 1) + x = omega arith in e));
+        last = λ h. omega (arith, h, old_total, new_total);
+      })
+      (inl (λ x low h. omega (arith, h, old_total, new_total)))))))
+    where
+      zip_same : (us : List TextUnit) → zip us us ≡ same_way us
+      zip_same [] = refl
+      zip_same (u ∷ us) = ap (λ l. both u u ∷ l) (zip_same us)
+
+  pub put_pairs : {Formed : Type 0} (lines edited : List Line) (well : IsPutWell Formed (units lines) block (units edited) (newlines lines) (newlines edited))
+      → HasPairs (c ∷ []) (ts ∷ []) lines edited (put_steps well)
+  put_pairs {Formed} lines edited well =
+      let front = well.put.front in
+      let back = well.put.back in
+      let before = newlines lines in
+      let after = newlines edited in
+      let head = zip front front in
+      let tail = zip back back in
+      let olds_head = zip_olds (λ u w. u ≡ w) front front (all_same front) in
+      let news_head = zip_news (λ u w. u ≡ w) front front (all_same front) in
+      let olds_tail = zip_olds (λ u w. u ≡ w) back back (all_same back) in
+      let news_tail = zip_news (λ u w. u ≡ w) back back (all_same back) in
+      record {
+        olds_are = olds_append head (map new block ++ tail) ∙ ap₂ (λ x y. x ++ y) olds_head (olds_append (map new block) tail ∙ ap₂ (λ x y. x ++ y) (new_olds block) olds_tail) ∙ sym well.put.before;
+        news_are = news_append head (map new block ++ tail) ∙ ap₂ (λ x y. x ++ y) news_head (news_append (map new block) tail ∙ ap₂ (λ x y. x ++ y) (new_news block) news_tail) ∙ sym well.put.after;
+        fits =
+            fits_append (c ∷ []) (ts ∷ []) before after head (map new block ++ tail) None 0 0
+            (zip_fits (c ∷ []) (ts ∷ []) before after (λ u w. u ≡ w) (matches before after) front front (all_same front) None 0 0 (λ x low. front_same well x low))
+            (fits_append (c ∷ []) (ts ∷ []) before after (map new block) tail (line_after None head) (0 + lines_in (olds head)) (0 + lines_in (news head))
+            (new_fits (c ∷ []) (ts ∷ []) before after block (line_after None head) (0 + lines_in (olds head)) (0 + lines_in (news head)) (puts.asked before after))
+            (zip_fits (c ∷ []) (ts ∷ []) before after (λ u w. u ≡ w) (matches before after) back back (all_same back) (line_after (line_after None head) (map new block))
+            ((0 + lines_in (olds head)) + lines_in (olds (map new block))) ((0 + lines_in (news head)) + lines_in (news (map new block)))
+            (λ x low. inl (
+            ap (slice_get before) (let e = ap lines_in olds_head in let f = ap lines_in (new_olds block) in let g : ((0 + lines_in (olds head)) + lines_in (olds (map new block))) + x ≡ lines_in front + x = omega (arith, e, f) in g)
+            ∙ well.back_ends x
+            ∙ ap (slice_get after) (let e = ap lines_in news_head in let f = ap lines_in (new_news block) in
+            let g : lines_in front + suc x ≡ ((0 + lines_in (news head)) + lines_in (news (map new block))) + x = omega (arith, e, f, puts.one) in g)))));
+        comments_few = λ t. as_many t (texts (comments (added (head ++ (map new block ++ tail))))) (ts ++ []) (
+            ap (λ us. texts (comments us)) (added_append head (map new block ++ tail) ∙ ap₂ (λ x y. x ++ y) (zip_adds front front) (added_append (map new block) tail ∙ ap₂ (λ x y. x ++ y) (new_adds block) (zip_adds back back)) ∙ append-nil block)
+            ∙ puts.texts_are ∙ sym (append-nil ts));
+      }
+    where
+      front_same : {Formed : Type 0} {before after : List (List ℕ)} {us ws : List TextUnit} (well : IsPutWell Formed us block ws before after) (x : ℕ) → x < lines_in well.put.front → SameNewline (c ∷ []) (ts ∷ []) before after (0 + x) (0 + x)
+      front_same {Formed} {before} {after} well x low =
+          let e : x ≡ 0 + x = omega arith in
+          subst (λ n. SameNewline (c ∷ []) (ts ∷ []) before after n n) e (elim (well.front_ends x low) [ inl is ↦ inl is | inr last ↦ inr (inl last) ])
+
+  pub put_way : (lines edited : List Line) → AreLines lines → EachIs (ComesBlank (c ∷ []) (newlines lines) (newlines edited)) block
+      → IsPutWell (AreLines lines) (units lines) block (units edited) (newlines lines) (newlines edited) → HasWay (c ∷ []) (ts ∷ []) lines edited
+  put_way lines edited formed blank well =
+      let h = put_pairs lines edited well in
+      record {
+        way = put_steps well;
+        olds_are = h.olds_are;
+        news_are = h.news_are;
+        fits = h.fits;
+        keeps = put_keeps formed well blank (count_lines lines (root ∷ []) 0) (count_lines edited (root ∷ []) 0);
+        comments_few = h.comments_few;
+      }
+
+-- ---- of an `insert`
 
 module _ (q : Address) (name text : List ℕ) (v : Value) (s : Spacing) where
   abbrev p : Address
@@ -52,144 +201,41 @@ module _ (q : Address) (name text : List ℕ) (v : Value) (s : Spacing) where
   owed a (inl below) = inl (p, p, refl, refl, inr below)
   owed a (inr (s, rest, is)) = inl (p, p, refl, refl, inl (s ∷ rest, is))
 
-  matches : (before after : List (List ℕ)) (line : Option Site) (a b : ℕ) (u w : TextUnit) → u ≡ w → (u.kind ≡ kinds.Line → SameNewline (c ∷ []) (ts ∷ []) before after a b)
-      → Matches (c ∷ []) (ts ∷ []) before after line a b u w
-  matches before after line a b u w is same = subst (Matches (c ∷ []) (ts ∷ []) before after line a b u) is (record {
-    kind = refl;
-    kept = λ here. record {
-      text = refl;
-      address = carried_to c u.address u.address (stays u.address) (λ x at. (x, inserted_on q name text x));
-      newline = same;
-    };
-    lost = λ gone. (
-      (λ is_line. let l = lost_line c tt line u is_line gone in subst (λ o. At o (IsOwed (c ∷ []))) (sym l.1) (owed l.0 l.2)),
-      no_comment_lost c tt line u gone,
-    );
-  })
-    where
-      stays : (o : Option Address) → o ≡ option_and_then (carry c) o
-      stays None = refl
-      stays (Some x) = sym (inserted_on q name text x)
+  abbrev line_block : List TextUnit
+  line_block = block q name v s
 
-  abbrev block : List TextUnit
-  block = pair_line_units (fresh (pair_text s name v)) p (length q) v None
-
-  block_asked : (before after : List (List ℕ)) → EachIs (λ w. (k : ℕ) → IsAsked (c ∷ []) (ts ∷ []) before after k w) block
-  block_asked before after = (
+  line_asked : (before after : List (List ℕ)) → EachIs (λ w. (k : ℕ) → IsAsked (c ∷ []) (ts ∷ []) before after k w) line_block
+  line_asked before after = (
     (λ k. record { line = λ is. inl (owed p (inl ([], sym (append-nil p)))); comment = λ is. absurd (true≢false (sym is)) }),
     each_append _ (inside p v) [] (inside_asked c v before after) tt,
   )
 
-  all_fixed : (us : List TextUnit) → EachIs (IsFixed c) us
-  all_fixed [] = tt
-  all_fixed (u ∷ us) = ((stays u.address, insert_header p text u u), all_fixed us)
-    where
-      stays : (o : Option Address) → o ≡ option_and_then (carry c) o
-      stays None = refl
-      stays (Some x) = sym (inserted_on q name text x)
+  line_comes : (before after : List (List ℕ)) → EachIs (ComesBlank (c ∷ []) before after) line_block
+  line_comes before after = (
+    (λ is none. let e : ⊥ = cc in absurd e),
+    each_append _ (inside p v) [] (inner_blank c before after p (inside p v) (value_in p v p (inr refl))) tt,
+  )
 
-  block_lines : lines_in block ≡ 1
-  block_lines = let none = lines_append (inside p v) [] in let zero = inside_lines p v in omega (arith, none, zero)
+  line_one : lines_in line_block ≡ 1
+  line_one = let none = lines_append (inside p v) [] in let zero = inside_lines p v in omega (arith, none, zero)
 
-  some_lines : (us : List TextUnit) → BeginWithLine us → (us ≡ []) ⊎ (0 < lines_in us)
-  some_lines [] line = inl refl
-  some_lines (u ∷ us) line = let e : one_line u.kind ≡ 1 = ap one_line line in inr (omega (arith, e))
-
-  put_keeps : {Formed : Type 0} {before after : List (List ℕ)} {us ws : List TextUnit} (formed : Formed) (well : IsPutWell Formed us block ws before after)
-      → lines_in us ≡ length before → lines_in ws ≡ length after
-      → Keeps (c ∷ []) before after None None 0 0 (zip well.put.front well.put.front ++ (map new block ++ zip well.put.back well.put.back))
-  put_keeps {Formed} {before} {after} formed well old_count new_count =
-      let front = well.put.front in
-      let back = well.put.back in
-      let n = lines_in front in
-      let olds_head = ap lines_in (same_olds front) in
-      let news_head = ap lines_in (same_news front) in
-      let olds_block = ap lines_in (new_olds block) in
-      let news_block = ap lines_in (new_news block) in
-      let old_total : n + lines_in back ≡ length before = sym (lines_append front back) ∙ ap lines_in (sym well.put.before) ∙ old_count in
-      let new_total : n + (1 + lines_in back) ≡ length after =
-      (let a = lines_append front (block ++ back) in let b = lines_append block back in let d = ap lines_in well.put.after in omega
-      (arith, a, b, d, block_lines, new_count)) in
-      subst₂ (λ x y. Keeps (c ∷ []) before after None None 0 0 (x ++ (map new block ++ y))) (sym (zip_same front)) (sym (zip_same back))
-      (keeps_append c before after (same_way front) (map new block ++ same_way back) None None 0 0
-      (same_keeps c before after front (all_fixed front) None None (inl refl) 0 0
-      (λ x low. record {
-        newline = let e : x ≡ 0 + x = omega arith in subst (λ k. (slice_get before k ≡ slice_get after k) ⊎ (k + 1 ≡ length before)) e
-            (well.front_ends x low);
-        last = λ h. let f : ⊥ = omega (arith, low, h, new_total) in absurd f;
-      })
-      (elim (some_lines back well.put.next) [
-        | inl none ↦ inr (well.full formed none, omega (arith, old_total))
-        | inr some ↦ inl (λ x low h. let f : ⊥ = omega (arith, some, low, h, old_total) in absurd f)
-      ]))
-      (keeps_append c before after (map new block) (same_way back) (line_after None (same_way front)) (next_after None (same_way front))
-      (0 + lines_in (olds (same_way front))) (0 + lines_in (news (same_way front)))
-      (new_keeps c before after block block_blank (line_after None (same_way front)) (next_after None (same_way front))
-      (0 + lines_in (olds (same_way front))) (0 + lines_in (news (same_way front))))
-      (subst₂ (λ x y. Keeps (c ∷ []) before after (line_after (line_after None (same_way front)) (map new block))
-      (next_after (next_after None (same_way front)) (map new block)) x y (same_way back))
-      (let e : n ≡ (0 + lines_in (olds (same_way front))) + lines_in (olds (map new block)) = omega (arith, olds_head, olds_block) in e)
-      (let e : n + 1 ≡ (0 + lines_in (news (same_way front))) + lines_in (news (map new block)) = omega
-      (arith, news_head, news_block, block_lines) in e)
-      (same_keeps c before after back (all_fixed back) (line_after (line_after None (same_way front)) (map new block))
-      (next_after (next_after None (same_way front)) (map new block)) (inr well.put.next) n (n + 1)
-      (λ x low. record {
-        newline = inl (well.back_ends x ∙ ap (slice_get after) (let e : n + suc x ≡ (n + 1) + x = omega arith in e));
-        last = λ h. omega (arith, h, old_total, new_total);
-      })
-      (inl (λ x low h. omega (arith, h, old_total, new_total)))))))
-    where
-      zip_same : (us : List TextUnit) → zip us us ≡ same_way us
-      zip_same [] = refl
-      zip_same (u ∷ us) = ap (λ l. both u u ∷ l) (zip_same us)
-
-      block_blank : EachIs (ComesBlank (c ∷ []) before after) block
-      block_blank = (
-        (λ is none. cc),
-        each_append _ (inside p v) [] (inner_blank c before after p (inside p v) (value_in p v p (inr refl))) tt,
-      )
-
-  put_way : (lines edited : List Line) → AreLines lines
-      → IsPutWell (AreLines lines) (units lines) block (units edited) (newlines lines) (newlines edited) → HasWay (c ∷ []) (ts ∷ []) lines edited
-  put_way lines edited formed well =
-      let front = well.put.front in
-      let back = well.put.back in
-      let before = newlines lines in
-      let after = newlines edited in
-      let head = zip front front in
-      let tail = zip back back in
-      let olds_head = zip_olds (λ u w. u ≡ w) front front (all_same front) in
-      let news_head = zip_news (λ u w. u ≡ w) front front (all_same front) in
-      let olds_tail = zip_olds (λ u w. u ≡ w) back back (all_same back) in
-      let news_tail = zip_news (λ u w. u ≡ w) back back (all_same back) in
-      record {
-        way = head ++ (map new block ++ tail);
-        olds_are = olds_append head (map new block ++ tail) ∙ ap₂ (λ x y. x ++ y) olds_head (olds_append (map new block) tail ∙ ap₂ (λ x y. x ++ y) (new_olds block) olds_tail) ∙ sym well.put.before;
-        news_are = news_append head (map new block ++ tail) ∙ ap₂ (λ x y. x ++ y) news_head (news_append (map new block) tail ∙ ap₂ (λ x y. x ++ y) (new_news block) news_tail) ∙ sym well.put.after;
-        fits =
-            fits_append (c ∷ []) (ts ∷ []) before after head (map new block ++ tail) None 0 0
-            (zip_fits (c ∷ []) (ts ∷ []) before after (λ u w. u ≡ w) (matches before after) front front (all_same front) None 0 0 (λ x low. front_same well x low))
-            (fits_append (c ∷ []) (ts ∷ []) before after (map new block) tail (line_after None head) (0 + lines_in (olds head)) (0 + lines_in (news head))
-            (new_fits (c ∷ []) (ts ∷ []) before after block (line_after None head) (0 + lines_in (olds head)) (0 + lines_in (news head)) (block_asked before after))
-            (zip_fits (c ∷ []) (ts ∷ []) before after (λ u w. u ≡ w) (matches before after) back back (all_same back) (line_after (line_after None head) (map new block))
-            ((0 + lines_in (olds head)) + lines_in (olds (map new block))) ((0 + lines_in (news head)) + lines_in (news (map new block)))
-            (λ x low. inl (
-            ap (slice_get before) (let e = ap lines_in olds_head in let f = ap lines_in (new_olds block) in let g : ((0 + lines_in (olds head)) + lines_in (olds (map new block))) + x ≡ lines_in front + x = omega (arith, e, f) in g)
-            ∙ well.back_ends x
-            ∙ ap (slice_get after) (let e = ap lines_in news_head in let f = ap lines_in (new_news block) in
-            let g : lines_in front + suc x ≡ ((0 + lines_in (news head)) + lines_in (news (map new block))) + x = omega (arith, e, f, block_lines) in g)))));
-        keeps = put_keeps formed well (count_lines lines (root ∷ []) 0) (count_lines edited (root ∷ []) 0);
-        comments_few = λ t. as_many t (texts (comments (added (head ++ (map new block ++ tail))))) (ts ++ []) (
-            ap (λ us. texts (comments us)) (added_append head (map new block ++ tail) ∙ ap₂ (λ x y. x ++ y) (zip_adds front front) (added_append (map new block) tail ∙ ap₂ (λ x y. x ++ y) (new_adds block) (zip_adds back back)) ∙ append-nil block)
-            ∙ ap (λ us. texts (comments us)) (append-nil (inside p v)) ∙ same_comments p v ∙ sym (append-nil ts));
-      }
-    where
-      front_same : {Formed : Type 0} {before after : List (List ℕ)} {us ws : List TextUnit} (well : IsPutWell Formed us block ws before after) (x : ℕ) → x < lines_in well.put.front → SameNewline (c ∷ []) (ts ∷ []) before after (0 + x) (0 + x)
-      front_same {Formed} {before} {after} well x low =
-          let e : x ≡ 0 + x = omega arith in
-          subst (λ n. SameNewline (c ∷ []) (ts ∷ []) before after n n) e (elim (well.front_ends x low) [ inl is ↦ inl is | inr last ↦ inr (inl last) ])
+  insert_puts : PutsLine c ts line_block
+  insert_puts = record {
+    stays = inserted_on q name text;
+    lost = λ line u gone. (
+      (λ is_line. let l = lost_line c tt line u is_line gone in subst (λ o. At o (IsOwed (c ∷ []))) (sym l.1) (owed l.0 l.2)),
+      no_comment_lost c tt line u gone,
+    );
+    header = λ u. insert_header p text u u;
+    asked = line_asked;
+    one = line_one;
+    texts_are = ap (λ us. texts (comments us)) (append-nil (inside p v)) ∙ same_comments p v;
+  }
 
 pub insert_way : (q : Address) (name text : List ℕ) (v : Value) (manner : Manner) (lines : List Line) → HasSection lines q → AreLines lines
     → HasWay (insert (child q name) text ∷ []) (texts (comments (inside [] v)) ∷ []) lines (insert_in q name v manner lines)
 insert_way q name text v manner lines there formed =
-    let (s, plain, well) = puts_lines q name v manner lines there in put_way q name text v s lines (insert_in q name v manner lines) formed well
+    let (s, plain, well) = puts_lines q name v manner lines there in
+    let edited = insert_in q name v manner lines in
+    put_way (insert (child q name) text) (texts (comments (inside [] v))) (block q name v s) (insert_puts q name text v s) lines edited formed
+    (line_comes q name text v s (newlines lines) (newlines edited)) well
