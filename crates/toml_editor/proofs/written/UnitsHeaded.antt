@@ -1,5 +1,6 @@
 -- The units after the header line of a new section.
-use Rattle.std.proofs.Common.{◌≡◌, inl, inr, ℕ, ◌+◌, ◌-◌, ◌==◌, ◌&&◌, true, false, cond, Option, Some, None, List, [], ◌∷◌, ◌++◌, map, refl, sym, ap, ap₂, ◌∙◌, subst, subst₂, true≢false, append_assoc, append-nil, arith}
+use Rattle.std.proofs.Common.{◌≡◌, inl, inr, ℕ, ◌+◌, ◌-◌, ◌==◌, ◌&&◌, true, false, cond, Option, Some, None, List, [], ◌∷◌, ◌++◌, map}
+use Rattle.std.proofs.Common.{refl, sym, ap, ap₂, ◌∙◌, subst, subst₂, true≢false, append_assoc, append-nil, arith}
 use Rattle.std.specs.List.{flat_map, join_by}
 use Rattle.std.specs.Prelude.{option_map}
 use Rattle.std.proofs.Math.Bool.{and-false}
@@ -14,7 +15,8 @@ use Rattle.toml_names.specs.declared.mentions.mention.Role.TheVariants as roles
 use Rattle.toml_names.specs.model.Addresses.{Address, child, element, same_address}
 use Rattle.toml_names.specs.mentions.Alike.{AreAlike}
 use Rattle.toml_names.specs.mentions.Keys.{Key, key_names, part_name, rest_names}
-use Rattle.toml_names.specs.mentions.Mentions.{Named, count_tables, ends_table, ends_tables, entered, followed, is_tables, named, named_by, root, section, section_from, table_at}
+use Rattle.toml_names.specs.mentions.Mentions.{Named, count_tables, ends_table, ends_tables, entered, followed, is_tables, named, named_by}
+use Rattle.toml_names.specs.mentions.Mentions.{root, section, section_from, table_at}
 use Rattle.toml_names.specs.mentions.OwnAddresses.{IsHeaderLine}
 use Rattle.toml_names.specs.reader.Names.{header_end, own_address}
 use Rattle.toml_names.proofs.Proved.{count-append, section_from-append}
@@ -36,13 +38,13 @@ use Rattle.toml_editor.proofs.written.UnitsAlike.{step_alike, units_alike}
 use Rattle.toml_editor.proofs.written.UnitsPut.{IsPutWell, formed_well, put_among, put_before, put_last}
 use Rattle.toml_editor.proofs.written.WayFits.{newlines}
 
--- ---- lists with the same counts
+-- ---- behind lists with the same counts
 
 -- each array of tables has as many tables in the one list as in the other
 abbrev pub AreCountedAlike : List Named → List Named → Type 0
 AreCountedAlike xs ys = (at : Address) → count_tables xs at ≡ count_tables ys at
 
--- the table of a header, or its element, is the section behind it, whatever that was before
+-- The end of a header is the section behind it, whatever that was before, and its address.
 section_ends : (key : Key) (line : ℕ) (ms : List Named) (end : Address → List Named) (n : List ℕ) (from a : Address)
     → section_from a (followed line ms end from (n ∷ key)) ≡ section_from a (end (header_end ms from (n ∷ key)))
 section_ends [] line ms end n from a = refl

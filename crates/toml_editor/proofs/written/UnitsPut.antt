@@ -1,4 +1,4 @@
--- The units after an `insert`.
+-- The units after one line more, and so after an `insert`.
 use Rattle.std.proofs.Common.{◌≡◌, ℕ, ◌+◌, Some, None, List, [], ◌∷◌, ◌++◌, length, refl, sym, ap, ap₂, ◌∙◌, subst, subst₂, append_assoc, append-nil, ◌⊎◌, inl, inr, ◌<◌, zero, suc, arith, Option}
 use Rattle.std.specs.Prelude.{slice_get}
 use Rattle.toml_scalar.specs.Spelling.{spelled}
@@ -105,7 +105,9 @@ put_before Formed e block xs n m ls ending own same = record {
     next = lines_first ls xs n;
   };
   front_ends = λ a low. let e : ⊥ = omega (arith, low) in absurd e;
-  back_ends = λ a. ap (slice_get (newlines ls)) (let e : 0 + a ≡ a = omega arith in e) ∙ ap (slice_get (ending ∷ newlines ls)) (let e : suc a ≡ 0 + suc a = omega arith in e);
+  back_ends = λ a.
+      ap (slice_get (newlines ls)) (let e : 0 + a ≡ a = omega arith in e)
+      ∙ ap (slice_get (ending ∷ newlines ls)) (let e : suc a ≡ 0 + suc a = omega arith in e);
   full = λ formed none. tt;
 }
 

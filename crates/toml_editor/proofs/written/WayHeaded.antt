@@ -1,5 +1,5 @@
 -- The way of the header line of a new section.
-use Rattle.std.proofs.Common.{◌≡◌, inl, inr, ℕ, ◌&&◌, false, true, Option, Some, None, List, [], ◌∷◌, refl, sym, ap, ap₂, ◌∙◌, subst, true≢false, append-nil}
+use Rattle.std.proofs.Common.{◌≡◌, inl, inr, ℕ, ◌&&◌, false, true, Option, Some, None, List, [], ◌∷◌, refl, sym, ap₂, ◌∙◌, subst, true≢false, append-nil}
 use Rattle.std.specs.Prelude.{not}
 use Rattle.toml_tree.specs.Bare.{fresh}
 use Rattle.toml_tree.specs.Spells.{AreLines, EachIs}
