@@ -31,7 +31,7 @@ module _ (p : Address) (style ws : List ℕ) where
     pub front_is : front ≡ before ++ last ∷ []
     pub none : back ≡ []
     pub full : has_no_bytes (line_outline last) ≡ false
-    pub open : last.newline.text ≡ []
+    pub «open» : last.newline.text ≡ []
     pub was : old ≡ before ++ last ∷ []
     pub is : new ≡ before ++ ended style last ∷ header_line One p ws [] ∷ []
 
