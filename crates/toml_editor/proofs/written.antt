@@ -62,6 +62,7 @@ pub mod RenameStanding
 pub mod RenameTexts
 pub mod RootPairs
 pub mod ScalarsLone
+pub mod SectionFormed
 pub mod SectionNamed
 pub mod SetFormed
 pub mod SetKept
