@@ -63,7 +63,10 @@ pub mod RenameTexts
 pub mod RootPairs
 pub mod ScalarsLone
 pub mod SectionFormed
+pub mod SectionKept
 pub mod SectionNamed
+pub mod SectionRoles
+pub mod SectionTables
 pub mod SetFormed
 pub mod SetKept
 pub mod SetNamed
