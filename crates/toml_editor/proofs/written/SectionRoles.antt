@@ -1,0 +1,162 @@
+-- What roles say of what lines name: where values stand, that arrays of tables are arrays, and that elements come in turn.
+use Rattle.std.proofs.Common.{◌≡◌, ◌≤◌, ℕ, ◌+◌, false, List, [], ◌∷◌, ◌++◌, refl, sym, ap, ◌∙◌, subst, true≢false, append_assoc, arith}
+use Rattle.std.specs.List.{list_any}
+use Rattle.std.proofs.lemmas.Bool.{or_parts}
+use Rattle.toml_tree.specs.Spells.{EachIs}
+use Rattle.toml_tree.specs.Tree.{Assign, Value, Scalar, Array, Inline, Items, Close, Last, More, Pairs, ClosePairs, LastPair, MorePairs, Expr, BlankLine, KeyValLine, TableLine, ArrayTableLine, Line}
+use Rattle.toml_names.specs.declared.mentions.mention.Role.TheVariants.{Passed, Valued, Tables, Element}
+use Rattle.toml_names.specs.mentions.Keys.{Key, key_names}
+use Rattle.toml_names.specs.mentions.Mentions.{Named, an_array, named, named_by, named_from, root, table_at, fronts, inside, elements, members, pair_named, value_named, entered, followed, ends_table, ends_tables, section, count_tables, is_tables, is_section}
+use Rattle.toml_names.specs.model.Addresses.{Address, IsAbove, child, element, below}
+use Rattle.toml_names.proofs.Proved.{count-append, inside_is_below}
+use Rattle.toml_layout.specs.Beginnings.{begins}
+use Rattle.toml_working.specs.Standing.{holds, line_stands, standing, standing_from}
+use Rattle.toml_editor.proofs.Each.{each_append, each_weaker}
+use Rattle.toml_editor.proofs.written.DocumentSections.{begins_longer}
+use Rattle.toml_editor.proofs.written.Plain.{behind}
+
+-- ---- lines
+
+-- what holds of what a header's key passes, and of its end, holds of what it names
+followed_each : (P : Named → Type 0) (n : ℕ) (xs : List Named) (e : Address → List Named) → ((a : Address) → P (table_at n Passed a)) → ((to : Address) → EachIs P (e to))
+    → (key : Key) (at : Address) → EachIs P (followed n xs e at key)
+followed_each P n xs e passed ends [] at = tt
+followed_each P n xs e passed ends (k ∷ []) at = ends (child at k)
+followed_each P n xs e passed ends (k ∷ l ∷ more) at = (passed (entered xs (child at k)), followed_each P n xs e passed ends (l ∷ more) (entered xs (child at k)))
+
+-- neither an array of tables nor named by a header
+abbrev IsPart : Named → Type 0
+IsPart m = (is_tables m.role ≡ false) × (is_section m.role ≡ false)
+
+fronts_parts : (n : ℕ) (key : Key) (at : Address) → EachIs IsPart (fronts n at key)
+fronts_parts n [] at = tt
+fronts_parts n (k ∷ []) at = tt
+fronts_parts n (k ∷ l ∷ more) at = ((refl, refl), fronts_parts n (l ∷ more) (child at k))
+
+pair_by : (n : ℕ) (a : Assign) (v : Value) (at : Address) → ((to : Address) → EachIs IsPart (inside n to v)) → EachIs IsPart (pair_named n at a v)
+pair_by n a v at within = each_append IsPart (fronts n at (key_names a.key)) _ (fronts_parts n (key_names a.key) at) ((refl, refl), within (below at (key_names a.key)))
+
+mutual
+  inside_parts : (n : ℕ) (v : Value) (at : Address) → EachIs IsPart (inside n at v)
+  inside_parts n (Scalar kind p) at = tt
+  inside_parts n (Array whole items) at = elements_parts n items at 0
+  inside_parts n (Inline whole pairs) at = members_parts n pairs at
+
+  elements_parts : (n : ℕ) (items : Items) (at : Address) (i : ℕ) → EachIs IsPart (elements n at i items)
+  elements_parts n (Close g) at i = tt
+  elements_parts n (Last g v h) at i = ((refl, refl), inside_parts n v (element at i))
+  elements_parts n (More g v h is) at i =
+      ((refl, refl), each_append IsPart (inside n (element at i) v) _ (inside_parts n v (element at i)) (elements_parts n is at (i + 1)))
+
+  members_parts : (n : ℕ) (pairs : Pairs) (at : Address) → EachIs IsPart (members n at pairs)
+  members_parts n (ClosePairs g) at = tt
+  members_parts n (LastPair g a v h) at = pair_by n a v at (inside_parts n v)
+  members_parts n (MorePairs g a v h ps) at = each_append IsPart (pair_named n at a v) _ (pair_by n a v at (inside_parts n v)) (members_parts n ps at)
+
+pair_parts : (n : ℕ) (a : Assign) (v : Value) (at : Address) → EachIs IsPart (pair_named n at a v)
+pair_parts n a v at = pair_by n a v at (inside_parts n v)
+
+-- ---- arrays of tables
+
+abbrev pub IsArray : Named → Type 0
+IsArray m = m.role ≡ Tables → m.kind ≡ an_array
+
+part_array : (m : Named) → IsPart m → IsArray m
+part_array m part is = absurd (true≢false (ap is_tables (sym is) ∙ part.0))
+
+line_arrays : (xs : List Named) (n : ℕ) (e : Expr) → EachIs IsArray (named_by xs n e)
+line_arrays xs n (BlankLine b) = tt
+line_arrays xs n (KeyValLine ws pair tail) =
+    each_weaker IsPart IsArray part_array (pair_named n (section xs) pair.assign pair.value) (pair_parts n pair.assign pair.value (section xs))
+line_arrays xs n (TableLine ws h tail) = followed_each IsArray n xs (ends_table n) (λ a is. cc) (λ to. ((λ is. cc), tt)) (key_names h.key) []
+line_arrays xs n (ArrayTableLine ws h tail) = followed_each IsArray n xs (ends_tables n xs) (λ a is. cc) (λ to. ((λ is. refl), ((λ is. cc), tt))) (key_names h.key) []
+
+arrays_from : (ls : List Line) (xs : List Named) (n : ℕ) → EachIs IsArray xs → EachIs IsArray (named_from xs n ls)
+arrays_from [] xs n are = are
+arrays_from (l ∷ ls) xs n are = arrays_from ls (xs ++ named_by xs n l.expr) (n + 1) (each_append IsArray xs (named_by xs n l.expr) are (line_arrays xs n l.expr))
+
+-- an array of tables is an array
+pub arrays_are : (lines : List Line) → EachIs IsArray (named lines)
+arrays_are lines = arrays_from lines (root ∷ []) 0 ((λ is. cc), tt)
+
+-- ---- elements
+
+-- an element that a header names has at least this many before it
+abbrev pub IsLater : List Named → Named → Type 0
+IsLater xs m = m.role ≡ Element → (c : Address) × (i : ℕ) × (m.address ≡ element c i) × (count_tables xs c ≤ i)
+
+part_later : (xs : List Named) (m : Named) → IsPart m → IsLater xs m
+part_later xs m part is = absurd (true≢false (ap is_section (sym is) ∙ part.1))
+
+line_later : (xs : List Named) (n : ℕ) (e : Expr) → EachIs (IsLater xs) (named_by xs n e)
+line_later xs n (BlankLine b) = tt
+line_later xs n (KeyValLine ws pair tail) =
+    each_weaker IsPart (IsLater xs) (part_later xs) (pair_named n (section xs) pair.assign pair.value) (pair_parts n pair.assign pair.value (section xs))
+line_later xs n (TableLine ws h tail) = followed_each (IsLater xs) n xs (ends_table n) (λ a is. cc) (λ to. ((λ is. cc), tt)) (key_names h.key) []
+line_later xs n (ArrayTableLine ws h tail) =
+    followed_each (IsLater xs) n xs (ends_tables n xs) (λ a is. cc) (λ to. ((λ is. cc), ((λ is. (to, count_tables xs to, refl, omega arith)), tt))) (key_names h.key) []
+
+later_more : (xs new : List Named) (m : Named) → IsLater (xs ++ new) m → IsLater xs m
+later_more xs new m later is =
+    let (c, i, at, low) = later is in
+    (c, i, at, (let both = count-append xs new c in omega (arith, both, low)))
+
+-- Behind what was named before, lines name later elements.
+pub all_later : (ls : List Line) (xs : List Named) → EachIs (IsLater xs) (behind xs ls)
+all_later [] xs = tt
+all_later (l ∷ ls) xs =
+    let new = named_by xs 0 l.expr in
+    each_append (IsLater xs) new (behind (xs ++ new) ls) (line_later xs 0 l.expr)
+    (each_weaker (IsLater (xs ++ new)) (IsLater xs) (later_more xs new) (behind (xs ++ new) ls) (all_later ls (xs ++ new)))
+
+-- ---- values
+
+-- no value of which the other stands at or below it
+abbrev pub IsNotOver : Address → Named → Type 0
+IsNotOver q m = m.role ≡ Valued → (s : Address) → ¬ (q ≡ m.address ++ s)
+
+module _ (q : Address) where
+  not_begun : (to rest : Address) → begins to q ≡ false → ¬ (q ≡ to ++ rest)
+  not_begun to rest not is = true≢false (sym (begins_longer to rest) ∙ ap (begins to) (sym is) ∙ not)
+
+  fronts_not_over : (n : ℕ) (key : Key) (at : Address) → EachIs (IsNotOver q) (fronts n at key)
+  fronts_not_over n [] at = tt
+  fronts_not_over n (k ∷ []) at = tt
+  fronts_not_over n (k ∷ l ∷ more) at = ((λ is. cc), fronts_not_over n (l ∷ more) (child at k))
+
+  pair_not_over : (n : ℕ) (a : Assign) (v : Value) (at : Address) → begins (below at (key_names a.key)) q ≡ false → EachIs (IsNotOver q) (pair_named n at a v)
+  pair_not_over n a v at not =
+      let to = below at (key_names a.key) in
+      each_append (IsNotOver q) (fronts n at (key_names a.key)) (value_named n Valued to v ∷ inside n to v) (fronts_not_over n (key_names a.key) at) (
+        (λ is s. not_begun to s not),
+        each_weaker (λ m. IsAbove to m.address) (IsNotOver q)
+            (λ m above is s at_it. not_begun to (above.0 ∷ (above.1 ++ s)) not (at_it ∙ ap (λ (a : Address). a ++ s) above.2 ∙ append_assoc to (above.0 ∷ above.1) s))
+            (inside n to v) (inside_is_below n v to),
+      )
+
+  line_not_over : (xs : List Named) (n : ℕ) (l : Line) → holds q (line_stands xs l) ≡ false → EachIs (IsNotOver q) (named_by xs n l.expr)
+  line_not_over xs n l not = by l.expr refl
+    where
+      Goal : Expr → Type 0
+      Goal e = EachIs (IsNotOver q) (named_by xs n e)
+
+      by : (e : Expr) → l.expr ≡ e → Goal l.expr
+      by (BlankLine b) is = subst Goal (sym is) tt
+      by (KeyValLine ws pair tail) is =
+          subst Goal (sym is)
+          (pair_not_over n pair.assign pair.value (section xs) (ap (λ e. holds q (line_stands xs (record { expr = e; newline = l.newline }))) (sym is) ∙ not))
+      by (TableLine ws h tail) is = subst Goal (sym is) (followed_each (IsNotOver q) n xs (ends_table n) (λ a is. cc) (λ to. ((λ is. cc), tt)) (key_names h.key) [])
+      by (ArrayTableLine ws h tail) is =
+          subst Goal (sym is) (followed_each (IsNotOver q) n xs (ends_tables n xs) (λ a is. cc) (λ to. ((λ is. cc), ((λ is. cc), tt))) (key_names h.key) [])
+
+  from_not_over : (ls : List Line) (xs : List Named) (n : ℕ) → list_any (holds q) (standing_from xs n ls) ≡ false → EachIs (IsNotOver q) xs
+      → EachIs (IsNotOver q) (named_from xs n ls)
+  from_not_over [] xs n none are = are
+  from_not_over (l ∷ ls) xs n none are =
+      let new = named_by xs n l.expr in
+      let (here, rest) = or_parts (holds q (line_stands xs l)) (list_any (holds q) (standing_from (xs ++ new) (n + 1) ls)) none in
+      from_not_over ls (xs ++ new) (n + 1) rest (each_append (IsNotOver q) xs new are (line_not_over xs n l here))
+
+  -- where no line's value stands at the address or above it, none does that is named
+  pub none_over : (lines : List Line) → list_any (holds q) (standing lines) ≡ false → EachIs (IsNotOver q) (named lines)
+  none_over lines none = from_not_over lines (root ∷ []) 0 none ((λ is. cc), tt)
