@@ -9,6 +9,7 @@ pub mod BlockFacts
 pub mod Certify
 pub mod Clear
 pub mod Closed
+pub mod Counted
 pub mod Deep
 pub mod DocumentSections
 pub mod Elsewhere
