@@ -10,6 +10,7 @@ pub mod Certify
 pub mod Clear
 pub mod Closed
 pub mod Counted
+pub mod CountedArrays
 pub mod Deep
 pub mod DocumentSections
 pub mod Elsewhere
