@@ -26,6 +26,7 @@ pub mod Exchanged
 pub mod Fitting
 pub mod Follow
 pub mod Formed
+pub mod HeaderLeads
 pub mod HeadersAlone
 pub mod HeaderPut
 pub mod HeadersRenamed
