@@ -39,6 +39,7 @@ pub mod InsertPlaces
 pub mod InsertSpaced
 pub mod InsertStands
 pub mod Inside
+pub mod InTurn
 pub mod KeptApart
 pub mod LastLines
 pub mod Made
