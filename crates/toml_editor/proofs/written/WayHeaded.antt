@@ -21,11 +21,12 @@ use Rattle.toml_checker.specs.Plain.{Site, home_stands, is_kept, is_named, next_
 use Rattle.toml_editor.specs.UnitBlocks.{header_line_units, header_text}
 use Rattle.toml_editor.proofs.written.HeaderPut.{IsSectionPut}
 use Rattle.toml_editor.proofs.written.UnitsHeaded.{section_units}
-use Rattle.toml_editor.proofs.written.Way.{Step, is_here}
+use Rattle.toml_editor.proofs.written.Way.{is_here}
 use Rattle.toml_editor.proofs.written.WayFits.{IsAsked}
 use Rattle.toml_editor.proofs.written.WayKeeps.{line_is}
 use Rattle.toml_editor.proofs.written.WayKept.{header_named}
-use Rattle.toml_editor.proofs.written.WayPut.{HasPairs, PutsLine, put_pairs, put_steps}
+use Rattle.toml_editor.proofs.written.WayPut.{PutsLine, put_way}
+use Rattle.toml_editor.proofs.written.WayWhole.{HasWay}
 
 module _ (q : Address) (name : List ℕ) where
   abbrev p : Address
@@ -101,12 +102,9 @@ module _ (q : Address) (name : List ℕ) where
   }
 
 -- All units of before go along, each to its address, and the header line comes, owed.
-pub section_pairs : (q : Address) (name style : List ℕ) (old new : List Line) → IsSectionPut (child q name) style old new → AreLines old
-    → (way : List Step) × HasPairs (new_section (child q name) ∷ []) ([] ∷ []) old new way
-section_pairs q name style old new put formed =
-    let well = section_units q name style old new put formed in
-    let block = header_line_units (fresh (header_text put.ws (child q name))) (child q name) in
-    let puts = section_puts q name put.ws in (
-      put_steps (new_section (child q name)) [] block puts well,
-      put_pairs (new_section (child q name)) [] block puts old new well,
-    )
+pub section_way : (q : Address) (name style : List ℕ) (old new : List Line) → IsSectionPut (child q name) style old new → AreLines old
+    → HasWay (new_section (child q name) ∷ []) ([] ∷ []) old new
+section_way q name style old new put formed =
+    let p = child q name in
+    put_way (new_section p) [] (header_units q name put.ws) (section_puts q name put.ws) old new formed
+    ((λ is none. inr (inl (p, p, refl, refl, ([], sym (append-nil p))))), tt) (section_units q name style old new put formed)

@@ -38,16 +38,16 @@ module _ (cs : List Change) (before after : List (List ℕ)) where
     pub empty : u.kind ≡ kinds.Line → is_here cs line u ≡ true → u.piece.text ≡ [] → a + 1 ≡ length before → b + 1 ≡ length after
     pub header : u.kind ≡ kinds.Line → u.base ≡ None → is_here cs line u ≡ false → At w.address (IsOwedBelow cs)
 
-  -- a line that comes and has no key is blank
-  abbrev pub ComesBlank : TextUnit → Type 0
-  ComesBlank w = w.kind ≡ kinds.Line → w.base ≡ None → w.address ≡ None
+  -- a line that comes and has no key is blank, or a header's at or below what the edits put there
+  abbrev pub ComesOwed : TextUnit → Type 0
+  ComesOwed w = w.kind ≡ kinds.Line → w.base ≡ None → (w.address ≡ None) ⊎ At w.address (IsOwedBelow cs)
 
   abbrev pub Keeps : Option Site → Option Site → ℕ → ℕ → List Step → Type 0
   Keeps line next a b [] = Unit {0}
   Keeps line next a b (both u w ∷ s) =
       Stays line next a b u w × Keeps (next_line line (site u)) (next_line next (site w)) (a + one_line u.kind) (b + one_line w.kind) s
   Keeps line next a b (old u ∷ s) = Keeps (next_line line (site u)) next (a + one_line u.kind) b s
-  Keeps line next a b (new w ∷ s) = ComesBlank w × Keeps line (next_line next (site w)) a (b + one_line w.kind) s
+  Keeps line next a b (new w ∷ s) = ComesOwed w × Keeps line (next_line next (site w)) a (b + one_line w.kind) s
 
 -- ---- what is protected under an edit and those that follow
 

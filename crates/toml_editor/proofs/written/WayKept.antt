@@ -28,7 +28,7 @@ use Rattle.toml_editor.proofs.written.Way.{Step, both, old, new, olds, news, one
 use Rattle.toml_editor.proofs.written.WayBlock.{line_after, lines_append}
 use Rattle.toml_editor.proofs.written.WayComments.{added}
 use Rattle.toml_editor.proofs.written.WayFits.{newlines}
-use Rattle.toml_editor.proofs.written.WayKeeps.{moved_site, Ends, Stays, ComesBlank, Keeps, line_is, line_goes, site_goes, same_ends, next_after}
+use Rattle.toml_editor.proofs.written.WayKeeps.{moved_site, Ends, Stays, ComesOwed, Keeps, line_is, line_goes, site_goes, same_ends, next_after}
 use Rattle.toml_editor.proofs.written.WayOwed.{IsOwedBelow}
 use Rattle.toml_editor.proofs.written.WayZip.{zip, lines_in}
 
@@ -159,12 +159,12 @@ module _ (c : Change) (before after : List (List ℕ)) where
 
   -- ---- units that come, and units that go
 
-  pub new_keeps : (ws : List TextUnit) → EachIs (ComesBlank (c ∷ []) before after) ws → (line next : Option Site) (a b : ℕ)
+  pub new_keeps : (ws : List TextUnit) → EachIs (ComesOwed (c ∷ []) before after) ws → (line next : Option Site) (a b : ℕ)
       → Keep line next a b (map new ws)
   new_keeps [] h line next a b = tt
   new_keeps (w ∷ ws) h line next a b = (h.0, new_keeps ws h.1 line (next_line next (site w)) a (b + one_line w.kind))
 
-  pub inner_blank : (p : Address) (us : List TextUnit) → EachIs (LiesInValue p) us → EachIs (ComesBlank (c ∷ []) before after) us
+  pub inner_blank : (p : Address) (us : List TextUnit) → EachIs (LiesInValue p) us → EachIs (ComesOwed (c ∷ []) before after) us
   inner_blank p [] h = tt
   inner_blank p (u ∷ us) h = ((λ is none. absurd (inner_is_no_line u.kind h.0.0 is)), inner_blank p us h.1)
 

@@ -18,7 +18,7 @@ use Rattle.toml_units.specs.Bares.{bare_unit}
 use Rattle.toml_editor.proofs.written.Way.{Step, both, old, new, olds, news, one_line, is_here}
 use Rattle.toml_editor.proofs.written.WayComments.{added, comments, times_cons}
 use Rattle.toml_editor.proofs.written.WayFits.{Matches, IsAsked, Fits}
-use Rattle.toml_editor.proofs.written.WayKeeps.{moved_site, Ends, Stays, ComesBlank, Keeps, no_more, kept_on, moved_on, line_moved_on, line_is}
+use Rattle.toml_editor.proofs.written.WayKeeps.{moved_site, Ends, Stays, ComesOwed, Keeps, no_more, kept_on, moved_on, line_moved_on, line_is}
 use Rattle.toml_editor.proofs.written.WayOwed.{along, IsOwedBelow, owed_below, owed_on, below_on, written_on}
 
 at_map : {P Q : Address → Type 0} → ((a : Address) → P a → Q a) → (o : Option Address) → At o P → At o Q
@@ -48,6 +48,11 @@ line_owed c cs None (Some a) (Some b) kept goes owed header =
     let below = below_on c cs a b goes (header refl) in record { owed = owed_below (c ∷ cs) b below; header = λ is. below }
 line_owed c cs (Some n) (Some a) (Some b) kept goes owed header =
     record { owed = owed_on c cs a b goes (λ rest. along parts.Line (Some n) tt cs a rest kept) owed; header = λ is. cc }
+
+below_carried : (c : Change) (cs : List Change) (o x : Option Address) → IsCarriedTo cs o x → At o (IsOwedBelow (c ∷ [])) → At x (IsOwedBelow (c ∷ cs))
+below_carried c cs None x goes below = absurd below
+below_carried c cs (Some a) None goes below = absurd goes
+below_carried c cs (Some a) (Some b) goes below = below_on c cs a b goes below
 
 -- what goes by the first edit
 pub lost_on : (c : Change) (cs : List Change) (line : Option Site) (u : TextUnit) → is_here (c ∷ []) line u ≡ false
@@ -181,7 +186,7 @@ module _ (c : Change) (cs : List Change) (ts : List (List ℕ)) (more : List (Li
   -- ---- a unit that comes, and goes on
 
   module _ (mid next : Option Site) (b d : ℕ) (w v : TextUnit) (m : IsAsked (c ∷ []) (ts ∷ []) before between b w)
-      (k : ComesBlank (c ∷ []) before between w) (n : Then mid b d w v) (l : ThenStays mid next b d w v) where
+      (k : ComesOwed (c ∷ []) before between w) (n : Then mid b d w v) (l : ThenStays mid next b d w v) where
     new_line : v.kind ≡ kinds.Line → At v.address (IsOwed (c ∷ cs)) ⊎ ((d + 1 ≡ length after) × (v.piece.text ≡ []) × ¬ (c ∷ cs ≡ []))
     new_line is = by (is_here cs mid w) refl
       where
@@ -195,7 +200,7 @@ module _ (c : Change) (cs : List Change) (ts : List (List ℕ)) (more : List (Li
           | inr last ↦ inr (l.empty line then last.1 last.0, (n.kept then).text ∙ last.1, (λ none. cc))
           | inl owed ↦
               let on = line_owed c cs w.base w.address v.address (sym (line_is cs mid w line) ∙ then) (n.kept then).address owed
-              (λ none. absurd (subst (λ o. At o (IsOwed (c ∷ []))) (k line none) owed)) in
+              (λ none. elim (k line none) [ inl blank ↦ absurd (subst (λ o. At o (IsOwed (c ∷ []))) blank owed) | inr below ↦ below ]) in
               inl on.owed
         ]
 
@@ -209,10 +214,21 @@ module _ (c : Change) (cs : List Change) (ts : List (List ℕ)) (more : List (Li
             let p = n.kept then in
             (n.kind ∙ asked.0, written_on c cs ts more w v p.text p.address asked.1)
 
-    new_blank : ComesBlank (c ∷ cs) before after v
-    new_blank is none =
-        ap (λ (s : Site). s.address) l.goes
-        ∙ ap (option_and_then (carried cs)) (k (sym n.kind ∙ is) (ap (λ (s : Site). s.base) (sym l.goes) ∙ none))
+    new_owed : ComesOwed (c ∷ cs) before after v
+    new_owed is none = elim (k line bare) [
+      | inl blank ↦ inl (ap (λ (s : Site). s.address) l.goes ∙ ap (option_and_then (carried cs)) blank)
+      | inr below ↦ inr (by (is_here cs mid w) refl below)
+    ]
+      where
+        line : w.kind ≡ kinds.Line
+        line = sym n.kind ∙ is
+
+        bare : w.base ≡ None
+        bare = ap (λ (s : Site). s.base) (sym l.goes) ∙ none
+
+        by : (y : Bool) → is_here cs mid w ≡ y → At w.address (IsOwedBelow (c ∷ [])) → At v.address (IsOwedBelow (c ∷ cs))
+        by false then below = at_map (λ e o. inr o) v.address (l.header line bare then)
+        by true then below = below_carried c cs w.address v.address (n.kept then).address below
 
     -- its comment was counted
     counted : (r s : List TextUnit) (t : List ℕ) (x : ℕ) → times t (texts (comments r)) ≤ times t (texts (comments s)) + x
@@ -264,7 +280,7 @@ module _ (c : Change) (cs : List Change) (ts : List (List ℕ)) (more : List (Li
         olds_are = r.olds_are;
         news_are = ap (λ l. v ∷ l) r.news_are;
         fits = (asked fits.0, r.fits);
-        keeps = (keeps.0, r.keeps);
+        keeps = (owed keeps.0, r.keeps);
         few = λ x. counted_too r.way (is_comment v.kind) x (r.few x);
       }
     where
@@ -278,6 +294,9 @@ module _ (c : Change) (cs : List Change) (ts : List (List ℕ)) (more : List (Li
             ];
         comment = λ comment. let w = is.comment comment in (w.0, inr w.1);
       }
+
+      owed : ComesOwed cs between after v → ComesOwed (c ∷ cs) before after v
+      owed is line none = elim (is line none) [ inl blank ↦ inl blank | inr below ↦ inr (at_map (λ e o. inr o) v.address below) ]
 
       counted_too : (r : List Step) (z : Bool) (x : List ℕ)
           → times x (texts (comments (added r))) ≤ times x (texts (comments (added s))) + times x (texts (comments (added t)))
@@ -409,7 +428,7 @@ module _ (c : Change) (cs : List Change) (ts : List (List ℕ)) (more : List (Li
         olds_are = r.olds_are;
         news_are = ap (λ l. v ∷ l) r.news_are;
         fits = (new_asked mid next b d w v fit.0 keep.0 n l, r.fits);
-        keeps = (new_blank mid next b d w v fit.0 keep.0 n l, r.keeps);
+        keeps = (new_owed mid next b d w v fit.0 keep.0 n l, r.keeps);
         few = λ y. counted mid next b d w v fit.0 keep.0 n l (added r.way) (added s) y (times y (texts (comments (added t)))) (r.few y);
       }
 

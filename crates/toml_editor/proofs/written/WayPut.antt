@@ -1,7 +1,6 @@
 -- The way of an edit that puts a line in, and so of an `insert`.
-use Rattle.std.proofs.Common.{◌≡◌, ◌⊎◌, inl, inr, ◌<◌, ◌≤◌, ◌+◌, ℕ, suc, false, Option, Some, None, List, [], ◌∷◌, ◌++◌, map, length, refl, sym, ap, ap₂, ◌∙◌, subst, subst₂, true≢false, arith, append-nil}
+use Rattle.std.proofs.Common.{◌≡◌, ◌⊎◌, inl, inr, ◌<◌, ◌+◌, ℕ, suc, false, Option, Some, None, List, [], ◌∷◌, ◌++◌, map, length, refl, sym, ap, ap₂, ◌∙◌, subst, subst₂, true≢false, arith, append-nil}
 use Rattle.std.specs.Prelude.{slice_get, option_and_then}
-use Rattle.std.specs.List.{flat_map}
 use Rattle.toml_tree.specs.Spells.{AreLines, EachIs}
 use Rattle.toml_tree.specs.Tree.{Value, Line}
 use Rattle.toml_names.specs.model.Addresses.{Address, child}
@@ -10,7 +9,7 @@ use Rattle.toml_edits.specs.Edits.{Change, insert}
 use Rattle.toml_units.specs.declared.unit.UnitKind.TheVariants as kinds
 use Rattle.toml_units.specs.Units.{TextUnit, inside, units}
 use Rattle.toml_checker.specs.CarriedTo.{At}
-use Rattle.toml_checker.specs.Comments.{is_comment, texts, times}
+use Rattle.toml_checker.specs.Comments.{is_comment, texts}
 use Rattle.toml_checker.specs.Owed.{IsOwed}
 use Rattle.toml_checker.specs.Plain.{Site}
 use Rattle.toml_working.specs.Inserting.{insert_in}
@@ -24,9 +23,9 @@ use Rattle.toml_editor.proofs.written.InsertKept.{inserted_on}
 use Rattle.toml_editor.proofs.written.Way.{Step, both, new, olds, news, one_line, is_here}
 use Rattle.toml_editor.proofs.written.WayBlock.{line_after, olds_append, news_append, added_append, fits_append, new_fits, new_olds, new_news, new_adds, lines_append, inside_lines, same_comments, inside_asked}
 use Rattle.toml_editor.proofs.written.WayComments.{added, comments}
-use Rattle.toml_editor.proofs.written.WayFits.{Fits, Matches, IsAsked, SameNewline, newlines}
+use Rattle.toml_editor.proofs.written.WayFits.{Matches, IsAsked, SameNewline, newlines}
 use Rattle.toml_editor.proofs.written.WayRenamed.{zip_adds}
-use Rattle.toml_editor.proofs.written.WayKeeps.{ComesBlank, Keeps, next_after}
+use Rattle.toml_editor.proofs.written.WayKeeps.{ComesOwed, Keeps, next_after}
 use Rattle.toml_editor.proofs.written.WayKept.{HeaderIsOwed, IsFixed, insert_header, same_way, same_keeps, same_olds, same_news, new_keeps, inner_blank, keeps_append, count_lines}
 use Rattle.toml_editor.proofs.written.UnitsGone.{value_in}
 use Rattle.toml_names.specs.mentions.Mentions.{root}
@@ -49,13 +48,6 @@ pub record PutsLine (c : Change) (ts : List (List ℕ)) (block : List TextUnit) 
   pub asked : (before after : List (List ℕ)) → EachIs (λ w. (k : ℕ) → IsAsked (c ∷ []) (ts ∷ []) before after k w) block
   pub one : lines_in block ≡ 1
   pub texts_are : texts (comments block) ≡ ts
-
--- the way gives pairs
-pub record HasPairs (cs : List Change) (written : List (List (List ℕ))) (lines edited : List Line) (way : List Step) : Type 0 where
-  pub olds_are : olds way ≡ units lines
-  pub news_are : news way ≡ units edited
-  pub fits : Fits cs written (newlines lines) (newlines edited) None 0 0 way
-  pub comments_few : (t : List ℕ) → times t (texts (comments (added way))) ≤ times t (flat_map (λ ts. ts) written)
 
 module _ (c : Change) (ts : List (List ℕ)) (block : List TextUnit) (puts : PutsLine c ts block) where
   stays_at : (o : Option Address) → o ≡ option_and_then (carry c) o
@@ -87,9 +79,9 @@ module _ (c : Change) (ts : List (List ℕ)) (block : List TextUnit) (puts : Put
   some_lines (u ∷ us) line = let e : one_line u.kind ≡ 1 = ap one_line line in inr (omega (arith, e))
 
   put_keeps : {Formed : Type 0} {before after : List (List ℕ)} {us ws : List TextUnit} (formed : Formed) (well : IsPutWell Formed us block ws before after)
-      → EachIs (ComesBlank (c ∷ []) before after) block → lines_in us ≡ length before → lines_in ws ≡ length after
+      → EachIs (ComesOwed (c ∷ []) before after) block → lines_in us ≡ length before → lines_in ws ≡ length after
       → Keeps (c ∷ []) before after None None 0 0 (put_steps well)
-  put_keeps {Formed} {before} {after} formed well blank old_count new_count =
+  put_keeps {Formed} {before} {after} formed well comes old_count new_count =
       let front = well.put.front in
       let back = well.put.back in
       let n = lines_in front in
@@ -115,7 +107,7 @@ module _ (c : Change) (ts : List (List ℕ)) (block : List TextUnit) (puts : Put
       ]))
       (keeps_append c before after (map new block) (same_way back) (line_after None (same_way front)) (next_after None (same_way front))
       (0 + lines_in (olds (same_way front))) (0 + lines_in (news (same_way front)))
-      (new_keeps c before after block blank (line_after None (same_way front)) (next_after None (same_way front))
+      (new_keeps c before after block comes (line_after None (same_way front)) (next_after None (same_way front))
       (0 + lines_in (olds (same_way front))) (0 + lines_in (news (same_way front))))
       (subst₂ (λ x y. Keeps (c ∷ []) before after (line_after (line_after None (same_way front)) (map new block))
       (next_after (next_after None (same_way front)) (map new block)) x y (same_way back))
@@ -134,9 +126,9 @@ module _ (c : Change) (ts : List (List ℕ)) (block : List TextUnit) (puts : Put
       zip_same [] = refl
       zip_same (u ∷ us) = ap (λ l. both u u ∷ l) (zip_same us)
 
-  pub put_pairs : {Formed : Type 0} (lines edited : List Line) (well : IsPutWell Formed (units lines) block (units edited) (newlines lines) (newlines edited))
-      → HasPairs (c ∷ []) (ts ∷ []) lines edited (put_steps well)
-  put_pairs {Formed} lines edited well =
+  pub put_way : (lines edited : List Line) → AreLines lines → EachIs (ComesOwed (c ∷ []) (newlines lines) (newlines edited)) block
+      → IsPutWell (AreLines lines) (units lines) block (units edited) (newlines lines) (newlines edited) → HasWay (c ∷ []) (ts ∷ []) lines edited
+  put_way lines edited formed comes well =
       let front = well.put.front in
       let back = well.put.back in
       let before = newlines lines in
@@ -148,6 +140,7 @@ module _ (c : Change) (ts : List (List ℕ)) (block : List TextUnit) (puts : Put
       let olds_tail = zip_olds (λ u w. u ≡ w) back back (all_same back) in
       let news_tail = zip_news (λ u w. u ≡ w) back back (all_same back) in
       record {
+        way = put_steps well;
         olds_are = olds_append head (map new block ++ tail) ∙ ap₂ (λ x y. x ++ y) olds_head (olds_append (map new block) tail ∙ ap₂ (λ x y. x ++ y) (new_olds block) olds_tail) ∙ sym well.put.before;
         news_are = news_append head (map new block ++ tail) ∙ ap₂ (λ x y. x ++ y) news_head (news_append (map new block) tail ∙ ap₂ (λ x y. x ++ y) (new_news block) news_tail) ∙ sym well.put.after;
         fits =
@@ -162,6 +155,7 @@ module _ (c : Change) (ts : List (List ℕ)) (block : List TextUnit) (puts : Put
             ∙ well.back_ends x
             ∙ ap (slice_get after) (let e = ap lines_in news_head in let f = ap lines_in (new_news block) in
             let g : lines_in front + suc x ≡ ((0 + lines_in (news head)) + lines_in (news (map new block))) + x = omega (arith, e, f, puts.one) in g)))));
+        keeps = put_keeps formed well comes (count_lines lines (root ∷ []) 0) (count_lines edited (root ∷ []) 0);
         comments_few = λ t. as_many t (texts (comments (added (head ++ (map new block ++ tail))))) (ts ++ []) (
             ap (λ us. texts (comments us)) (added_append head (map new block ++ tail) ∙ ap₂ (λ x y. x ++ y) (zip_adds front front) (added_append (map new block) tail ∙ ap₂ (λ x y. x ++ y) (new_adds block) (zip_adds back back)) ∙ append-nil block)
             ∙ puts.texts_are ∙ sym (append-nil ts));
@@ -171,19 +165,6 @@ module _ (c : Change) (ts : List (List ℕ)) (block : List TextUnit) (puts : Put
       front_same {Formed} {before} {after} well x low =
           let e : x ≡ 0 + x = omega arith in
           subst (λ n. SameNewline (c ∷ []) (ts ∷ []) before after n n) e (elim (well.front_ends x low) [ inl is ↦ inl is | inr last ↦ inr (inl last) ])
-
-  pub put_way : (lines edited : List Line) → AreLines lines → EachIs (ComesBlank (c ∷ []) (newlines lines) (newlines edited)) block
-      → IsPutWell (AreLines lines) (units lines) block (units edited) (newlines lines) (newlines edited) → HasWay (c ∷ []) (ts ∷ []) lines edited
-  put_way lines edited formed blank well =
-      let h = put_pairs lines edited well in
-      record {
-        way = put_steps well;
-        olds_are = h.olds_are;
-        news_are = h.news_are;
-        fits = h.fits;
-        keeps = put_keeps formed well blank (count_lines lines (root ∷ []) 0) (count_lines edited (root ∷ []) 0);
-        comments_few = h.comments_few;
-      }
 
 -- ---- of an `insert`
 
@@ -210,7 +191,7 @@ module _ (q : Address) (name text : List ℕ) (v : Value) (s : Spacing) where
     each_append _ (inside p v) [] (inside_asked c v before after) tt,
   )
 
-  line_comes : (before after : List (List ℕ)) → EachIs (ComesBlank (c ∷ []) before after) line_block
+  line_comes : (before after : List (List ℕ)) → EachIs (ComesOwed (c ∷ []) before after) line_block
   line_comes before after = (
     (λ is none. let e : ⊥ = cc in absurd e),
     each_append _ (inside p v) [] (inner_blank c before after p (inside p v) (value_in p v p (inr refl))) tt,

@@ -38,7 +38,7 @@ use Rattle.toml_editor.proofs.written.Way.{Step, old, new, olds, news, one_line,
 use Rattle.toml_editor.proofs.written.WayBlock.{old_olds, old_news, old_adds, line_after, olds_append, news_append, added_append, fits_append, new_olds, new_news, new_adds, lines_append, inside_lines}
 use Rattle.toml_editor.proofs.written.WayComments.{added, comments}
 use Rattle.toml_editor.proofs.written.WayFits.{Matches, Fits, SameNewline, newlines}
-use Rattle.toml_editor.proofs.written.WayKeeps.{ComesBlank, Keeps, next_after}
+use Rattle.toml_editor.proofs.written.WayKeeps.{ComesOwed, Keeps, next_after}
 use Rattle.toml_editor.proofs.written.WayKept.{HeaderIsOwed, header_named, IsFixed, same_way, same_olds, same_news, same_adds, same_keeps, new_keeps, old_keeps, keeps_append, count_lines}
 use Rattle.toml_editor.proofs.written.WayWhole.{HasWay, as_many}
 use Rattle.toml_editor.proofs.written.WayZip.{IsNear, lost_line, carried_to, lines_in}
@@ -220,8 +220,8 @@ module _ (table : Address) (name : List ℕ) (lines : List Line) where
   left_lines [] line = omega arith
   left_lines (u ∷ us) line = let e : one_line u.kind ≡ 1 = ap one_line line in omega (arith, e)
 
-  left_blank : (back : List TextUnit) → EachIs (ComesBlank (remove gone ∷ []) (newlines lines) (newlines edited)) (left_of back)
-  left_blank [] = ((λ is none. refl), tt)
+  left_blank : (back : List TextUnit) → EachIs (ComesOwed (remove gone ∷ []) (newlines lines) (newlines edited)) (left_of back)
+  left_blank [] = ((λ is none. inl refl), tt)
   left_blank (u ∷ us) = tt
 
   abbrev Keep : Option Site → Option Site → ℕ → ℕ → List Step → Type 0
