@@ -24,7 +24,6 @@ pub mod CarriedLists
 pub mod CertifiedLists
 -- that the code writes it
 pub mod StandingLaws
-pub mod HeadersInTurn
 pub mod PlainTexts
 pub mod PlainAnswers
 pub mod LastTexts

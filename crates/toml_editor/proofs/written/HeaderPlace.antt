@@ -159,6 +159,7 @@ module _ (q : Address) (name style : List ℕ) (lines : List Line) where
             put = inl (record { some = λ none. cc; was = are.lines; is = is });
             leads = owned;
             unkeyed = unkeyed;
+            apart = tt;
           };
           stands =
               ap standing is ∙ put_stands p front back [] style owned unkeyed
@@ -190,9 +191,10 @@ module _ (q : Address) (name style : List ℕ) (lines : List Line) where
             back = [];
             ws = [];
             spaced = λ are'. tt;
-            put = inr (record { before = before; last = last; front_is = refl; none = refl; full = it.full; «open» = opened; was = are.lines; is = is });
+            put = inr (inl (record { before = before; last = last; front_is = refl; none = refl; full = it.full; no_newline = opened; was = are.lines; is = is }));
             leads = owned;
             unkeyed = refl;
+            apart = tt;
           };
           stands =
               ap standing (is ∙ sym (append_assoc before (ended style last ∷ []) (h [] ∷ [])))
@@ -230,6 +232,7 @@ module _ (q : Address) (name style : List ℕ) (lines : List Line) where
             put = inl (record { some = λ none. cc; was = are.lines; is = is });
             leads = owned;
             unkeyed = unkeyed;
+            apart = tt;
           };
           stands =
               ap standing is ∙ put_stands p front back [] style owned unkeyed

@@ -1,12 +1,12 @@
 -- What a section without a fault tells of the data, and where its header line goes.
-use Rattle.std.proofs.Common.{◌≡◌, ℕ, ◌≤◌, Option, Some, None, IsSome, List, [], ◌∷◌, length, refl, sym, subst, ◌∙◌}
+use Rattle.std.proofs.Common.{◌≡◌, ◌⊎◌, ℕ, ◌<◌, ◌≤◌, Option, Some, None, IsSome, List, [], ◌∷◌, length, refl, sym, subst, ◌∙◌}
 use Rattle.toml_tree.specs.Spells.{AreLines}
 use Rattle.toml_tree.specs.Tree.{Line}
 use Rattle.toml_tree.specs.declared.profile.Profile.{Profile}
 use Rattle.toml_names.specs.declared.model.address.Step.TheVariants.{Name}
 use Rattle.toml_names.specs.mentions.Mentions.{Kind, a_scalar, a_table, an_array, named}
 use Rattle.toml_names.specs.mentions.Rules.{KeepsRules, max_steps}
-use Rattle.toml_names.specs.model.Addresses.{Address, child}
+use Rattle.toml_names.specs.model.Addresses.{Address, child, element}
 use Rattle.toml_names.specs.model.Data.{IsDataOf, Kinds}
 use Rattle.toml_edits.specs.Edits.{new_section}
 use Rattle.toml_edits.specs.Faults.{IsFault}
@@ -43,6 +43,13 @@ section_room profile q name kinds none = record {
     of_free : (o : Option Kind) → kinds (child q name) ≡ o → kinds (child q name) ≡ None
     of_free None is = is
     of_free (Some k) is = absurd (none AlreadyThere (q, name, refl, subst IsSome (sym is) refl))
+
+-- The element is the next one of its array, which a table has, or which is not there: then it is the first one.
+pub record IsNextElement (q : Address) (i : ℕ) (kinds : Kinds) : Type 0 where
+  pub table : (r : Address) × (n : List ℕ) × (q ≡ child r n) × (kinds r ≡ Some a_table)
+  pub next : ((kinds q ≡ None) × (i ≡ 0)) ⊎ ((kinds q ≡ Some an_array) × ((j : ℕ) → j < i → IsSome (kinds (element q j))))
+  pub free : kinds (element q i) ≡ None
+  pub short : length (element q i) ≤ max_steps
 
 -- by layout `Plain` the header line goes where it may stand
 pub section_goes : (q : Address) (name style : List ℕ) (lines : List Line) (kinds : Kinds) → AreLines lines → KeepsRules (named lines) → IsDataOf (named lines) kinds

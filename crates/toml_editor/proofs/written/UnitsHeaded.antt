@@ -224,7 +224,7 @@ module _ (p : Address) (ws : List ℕ) where
         subst₂ Well (sym put.was) (sym put.is)
         (formed_well (IsExpr l.expr) (AreLines was) (units was) (units made) header_units (newlines was) (newlines made) (line_formed put.before [] l)
         (put_among (IsExpr l.expr) header_units l [] (ended style l ∷ header_line One p ws [] ∷ []) (l ∷ []) (λ xs. own_address xs e ≡ Some p)
-        (λ xs n there. put_last (IsExpr l.expr) l e header_units xs n style (new_units (xs ++ named_by xs n l.expr) there) (last_full xs l put.full put.«open»))
+        (λ xs n there. put_last (IsExpr l.expr) l e header_units xs n style (new_units (xs ++ named_by xs n l.expr) there) (last_full xs l put.full put.no_newline))
         put.before (root ∷ []) 0 (ap (λ ls. own_address (named ls) e) (sym put.front_is) ∙ leads)))
 
 -- The units after the header line of a new section are those of before and the line's. The lines in front and behind keep their newlines, but
