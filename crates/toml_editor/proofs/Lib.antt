@@ -9,7 +9,6 @@ pub mod PlainAnswers
 mod PlainJudged
 pub mod NearFaults
 mod SpelledOne
-mod ParentIs
 mod SourceKept
 mod RenameWritten
 mod EditWritten

@@ -1,6 +1,7 @@
 use Rattle.std.proofs.Common.{◌∙◌, subst, subst₂}
 use Rattle.std.proofs.lemmas.Result.{IfOk-weaker}
 use Rattle.toml_edits.specs.Edits.{change}
+use Rattle.toml_layout.specs.declared.tree.Brackets.TheVariants.{One, Two}
 use Rattle.toml_editor.specs.Exact.{WritesBelow, WritesHeader, WritesInsert, WritesInside, WritesSet}
 use Rattle.toml_working.specs.HeldLines.{TakesFromValue}
 use Rattle.toml_working.specs.RemovingIn.{RemovesLines}
@@ -74,8 +75,8 @@ returns-in-Section c =
     (λ done made whole. (steps, spelled, made.0, subst (λ a. WritesHeader One read a steps old new done) (at whole) made.1))
     (if_ok_with _ _ result c.write_header.ensures.rest c.write_header.ensures.header))
 
-pub returns-in-Element : goal.returns-in-Element
-returns-in-Element c =
+pub returns : goal.returns
+returns c =
     let read = read_of c.args.read.before in
     let old = c.args.tree.now in
     let new = c.write_header-in-Element.new.tree in

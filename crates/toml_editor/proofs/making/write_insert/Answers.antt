@@ -11,7 +11,6 @@ use Rattle.toml_working.specs.Putting.{InsertsLines, manner}
 use Rattle.toml_working.specs.Sections.{TreePutsBelow}
 use Rattle.toml_working.specs.Starting.{read_of}
 use Rattle.toml_layout.specs.TreeOutlines.{value_outline}
-use Rattle.toml_editor.proofs.ParentIs.{parent_is}
 use Rattle.toml_editor.proofs.making.write_insert.Goals as goal
 
 pub returns-in_ok-named-in-Some-clause-insert : goal.returns-in_ok-named-in-Some-clause-insert
@@ -26,6 +25,26 @@ returns-in_ok-named-in-Some-clause-insert c =
 
 pub returns-in-None-clause-insert : goal.returns-in-None-clause-insert
 returns-in-None-clause-insert c within v is = absurd (subst (OpensText c.args.read.profile c.args.value.now) c.in-None.is c.in_ok-new.ensures within v is)
+
+-- the address without its last step is one
+last_is : (q r : Address) (x y : Step) → q ++ x ∷ [] ≡ r ++ y ∷ [] → q ≡ r
+last_is [] [] x y e = refl
+last_is [] (s ∷ []) x y e = cc
+last_is [] (s ∷ t ∷ r) x y e = cc
+last_is (s ∷ []) [] x y e = cc
+last_is (s ∷ t ∷ q) [] x y e = cc
+last_is (s ∷ q) (t ∷ r) x y e =
+    let rest : q ++ x ∷ [] ≡ r ++ y ∷ [] = cc in
+    let same : s ≡ t = cc in
+    ap₂ (λ u v. u ∷ v) same (last_is q r x y rest)
+
+parent_is : (p q r : Address) (last : Step) → IsParent p r → p ≡ q ++ last ∷ [] → r ≡ q
+parent_is p q r last (inl none) is = absurd (no_steps q last (sym is ∙ none))
+  where
+    no_steps : (q : Address) (last : Step) → ¬ (q ++ last ∷ [] ≡ [])
+    no_steps [] last e = cc
+    no_steps (s ∷ q) last e = cc
+parent_is p q r last (inr (s, split)) is = last_is r q s last (sym split ∙ is)
 
 pub returns-in_ok-named-in-Some-clause-inside : goal.returns-in_ok-named-in-Some-clause-inside
 returns-in_ok-named-in-Some-clause-inside c =
