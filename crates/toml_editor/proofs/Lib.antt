@@ -10,6 +10,7 @@ mod PlainJudged
 pub mod NearFaults
 mod SpelledOne
 mod SourceKept
+pub mod Mannered
 mod RenameWritten
 mod EditWritten
 mod WrittenOut

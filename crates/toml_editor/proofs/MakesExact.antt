@@ -35,8 +35,10 @@ use Rattle.toml_working.proofs.Proved.{held_inside, parent_held}
 use Rattle.toml_working.specs.HeldLines.{has_container_at}
 use Rattle.toml_working.specs.Standing.{Read, holds, standing}
 use Rattle.toml_working.specs.Stands.{Stands}
-use Rattle.toml_editor.specs.Steps.{AreWritten}
-use Rattle.toml_working.specs.Written.{IsWritten}
+use Rattle.toml_layout.specs.declared.layout.Layout.{Layout}
+use Rattle.toml_editor.specs.Steps.{AreWritten, last_manner}
+use Rattle.toml_editor.specs.EditedLines.{IsWritten, manner_after}
+use Rattle.toml_editor.proofs.Mannered.{last_layout}
 use Rattle.toml_editor.proofs.written.Follow.{remove_follows, set_follows, set_is_there}
 use Rattle.toml_editor.proofs.written.InsertFollow.{insert_follows}
 use Rattle.toml_editor.proofs.written.RemoveNamed.{line_parts}
@@ -228,11 +230,23 @@ same_last (a ∷ xs) (b ∷ ys) x y e =
 pub none_last : (profile : Profile) (read : Read) (tree : Tree) → HoldsLast profile read [] tree tree
 none_last profile read tree front c is = absurd (no_edit front c (sym is))
 
-written_more : (profile : Profile) (cs : List Change) (c : Change) (manner : Manner) (before mid after : List ℕ) → AreWritten profile cs manner before mid
-    → IsWritten profile c manner mid after → AreWritten profile (cs ++ c ∷ []) manner before after
+written_more : (profile : Profile) (cs : List Change) (c : Change) (manner : Manner) (before mid after : List ℕ) (edits : AreWritten profile cs manner before mid)
+    → IsWritten profile c (last_manner profile cs manner before mid edits) mid after → AreWritten profile (cs ++ c ∷ []) manner before after
 written_more profile [] c manner before mid after is written = (after, subst (λ t. IsWritten profile c manner t after) (sym is) written, refl)
 written_more profile (d ∷ cs) c manner before mid after (between, first, rest) written =
-    (between, first, written_more profile cs c manner between mid after rest written)
+    (between, first, written_more profile cs c (manner_after d manner first.0.lines) between mid after rest written)
+
+-- by what is written behind them
+last_more : (profile : Profile) (cs : List Change) (c : Change) (manner : Manner) (before mid after : List ℕ) (edits : AreWritten profile cs manner before mid)
+    (written : IsWritten profile c (last_manner profile cs manner before mid edits) mid after)
+    → last_manner profile (cs ++ c ∷ []) manner before after (written_more profile cs c manner before mid after edits written)
+    ≡ manner_after c (last_manner profile cs manner before mid edits) written.0.lines
+unfolding written_more
+last_more profile [] c manner before mid after is written =
+    let moved = subst (λ t. IsWritten profile c manner t after) (sym is) written in
+    ap (λ (d : Doc). manner_after c manner d.lines) (one_tree moved.0 written.0 mid (subst (Spells moved.0) is moved.1.0) written.1.0)
+last_more profile (d ∷ cs) c manner before mid after (between, first, rest) written =
+    last_more profile cs c (manner_after d manner first.0.lines) between mid after rest written
 
 -- the last of them, on the data to which those before it lead
 pub lead_parted : (profile : Profile) (cs : List Change) (c : Change) (old now : Kinds) → Lead profile (cs ++ c ∷ []) old now
@@ -243,11 +257,11 @@ lead_parted profile (d ∷ cs) c old now (none, mid, is_after, lead) =
 
 -- and on the text that they write
 plain_parted : (profile : Profile) (cs : List Change) (c : Change) (manner : Manner) (text : List ℕ) → ArePlain profile (cs ++ c ∷ []) manner text
-    → ArePlain profile cs manner text × ((between : List ℕ) → AreWritten profile cs manner text between → IsPlainOn manner.layout profile between c)
+    → ArePlain profile cs manner text × ((between : List ℕ) (edits : AreWritten profile cs manner text between) → IsPlainOn (last_manner profile cs manner text between edits).layout profile between c)
 plain_parted profile [] c manner text plain = (tt, λ between is. subst (λ t. IsPlainOn manner.layout profile t c) is plain.0)
 plain_parted profile (d ∷ cs) c manner text plain = (
-  (plain.0, λ first is. (plain_parted profile cs c manner first (plain.1 first is)).0),
-  λ between written. (plain_parted profile cs c manner written.0 (plain.1 written.0 written.1)).1 between written.2,
+  (plain.0, λ first is. (plain_parted profile cs c (manner_after d manner is.0.lines) first (plain.1 first is)).0),
+  λ between written. (plain_parted profile cs c (manner_after d manner written.1.0.lines) written.0 (plain.1 written.0 written.1)).1 between written.2,
 )
 
 -- none is made yet
@@ -256,7 +270,8 @@ none_made profile read tree text kinds now at lead plain = record {
   after = text;
   written = refl;
   at = subst (IsAt profile read tree text) (fun_ext lead) at;
-  source = record { texts = refl; mannered = refl };
+  texts = refl;
+  mannered = refl;
 }
 
 -- one more is made
@@ -267,13 +282,17 @@ more_made profile read cs c old tree new all makes text kinds now at lead plain 
     let (plain_all, plain_one) = plain_parted profile cs c (manner old) text plain in
     let here = all text kinds mid at first plain_all in
     let one = makes here.after mid now here.at none is_after
-    (subst (λ (m : Manner). IsPlainOn m.layout profile here.after c) (sym here.source.mannered) (plain_one here.after here.written)) in
+    (subst (λ (m : Manner). IsPlainOn m.layout profile here.after c) (sym here.mannered) (plain_one here.after here.written)) in
+    let written = subst (λ m. IsWritten profile c m here.after one.after) here.mannered one.written in
     record {
       after = one.after;
-      written = written_more profile cs c (manner old) text here.after one.after here.written
-          (subst (λ m. IsWritten profile c m here.after one.after) here.source.mannered one.written);
+      written = written_more profile cs c (manner old) text here.after one.after here.written written;
       at = one.at;
-      source = record { texts = one.source.texts ∙ here.source.texts; mannered = one.source.mannered ∙ here.source.mannered };
+      texts = one.texts ∙ here.texts;
+      mannered =
+          one.mannered
+          ∙ ap₂ (λ m (d : Doc). manner_after c m d.lines) here.mannered (one_tree one.written.0 written.0 here.after one.written.1.0 written.1.0)
+          ∙ sym (last_more profile cs c (manner old) text here.after one.after here.written written);
     }
 
 -- one more is, of which it is told what it makes
@@ -289,8 +308,9 @@ last_made profile read cs c old mid new makes one front d is text kinds now last
     let (ts, stands, changed) = one all.after now last all.at (subst (λ x. IsAfter profile x now last) (sym edits) is_after)
     (subst₂ (λ (x : Doc) y. IsInContainer x.lines y) (sym tree_is) (sym edits) there) in (
       ts,
-      subst (λ t. Stands t read new.slots.items ts) (ap (λ (s : Texts). text_of s.source) all.source.texts) stands,
-      subst (λ (m : Manner). ChangesLines m.layout profile d (standing e.lines) ts) all.source.mannered
+      subst (λ t. Stands t read new.slots.items ts) (ap (λ (s : Texts). text_of s.source) all.texts) stands,
+      subst (λ x. ChangesLines x profile d (standing e.lines) ts)
+          (ap (λ (m : Manner). m.layout) all.mannered ∙ last_layout profile cs (manner old) text all.after all.written)
           (subst₂ (λ (x : Doc) y. ChangesLines (manner mid).layout profile y (standing x.lines) ts) tree_is edits changed),
     )
 
@@ -301,14 +321,14 @@ abbrev pub OfOne : Profile → Read → Change → Tree → (Change → List ℕ
 OfOne profile read c tree P = (text : List ℕ) (kinds now : Kinds) → IsAt profile read tree text kinds
     → IsFault profile c kinds None → IsAfter profile c kinds now → P c text kinds
 
-of_plain_made : (profile : Profile) (read : Read) (cs : List Change) (i : ℕ) (c : Change) (old tree : Tree) (P : Manner → Change → List ℕ → Kinds → Type 0)
-    → MakesAll profile read (take i cs) old tree → slice_get cs i ≡ Some c → OfOne profile read c tree (P (manner tree)) → OfPlain profile read cs old i (P (manner old))
+of_plain_made : (profile : Profile) (read : Read) (cs : List Change) (i : ℕ) (c : Change) (old tree : Tree) (P : Layout → Change → List ℕ → Kinds → Type 0)
+    → MakesAll profile read (take i cs) old tree → slice_get cs i ≡ Some c → OfOne profile read c tree (P (manner tree).layout) → OfPlain profile read cs old i (P (manner old).layout)
 of_plain_made profile read cs i c old tree P makes here one d there text kinds mid now at lead none is_after plain between written =
     let all = makes text kinds mid at lead plain in
     let same : c ≡ d = same_Some c d (sym here ∙ there) in
     let text_is : all.after ≡ between = one_list_written profile (take i cs) (manner old) text all.after between all.written written in
-    subst (λ m. P m d between mid) all.source.mannered
-    (subst₂ (λ e t. P (manner tree) e t mid) same text_is
+    subst (λ x. P x d between mid) (ap (λ (m : Manner). m.layout) all.mannered ∙ last_layout profile (take i cs) (manner old) text all.after all.written)
+    (subst₂ (λ e t. P (manner tree).layout e t mid) same text_is
     (one all.after mid now all.at (subst (λ e. IsFault profile e mid None) (sym same) none) (subst (λ e. IsAfter profile e mid now) (sym same) is_after)))
 
 -- the first so many set nothing that is spread, nor does one more
@@ -324,7 +344,7 @@ more_passed profile read cs near part i c old tree so_far lead makes here one k 
     by (inl less) = so_far k less
     by (inr least) =
         let same : i ≡ k = omega (arith, low, least) in
-        subst (PassesAt profile read cs near old) same (part, lead, of_plain_made profile read cs i c old tree (λ m d text kinds. part (place d) ≡ kinds (place d) → ¬ IsSpreadOn profile text d kinds) makes here one)
+        subst (PassesAt profile read cs near old) same (part, lead, of_plain_made profile read cs i c old tree (λ x d text kinds. part (place d) ≡ kinds (place d) → ¬ IsSpreadOn profile text d kinds) makes here one)
 
 -- the fault with which they end
 pub stops_at : (profile : Profile) (read : Read) (places : Places) (cs : List Change) (near part : Kinds) (i : ℕ) (c : Change) (old tree : Tree)
@@ -337,7 +357,7 @@ stops_at profile read places cs near part i c old tree fault so_far makes here t
 
     not_at : (j : ℕ) → j ≡ i → IsNeitherOn profile read c tree → IsNeitherAt profile read cs j old
     not_at j is one = subst (λ n. IsNeitherAt profile read cs n old) (sym is)
-        (of_plain_made profile read cs i c old tree (λ m d text kinds. ¬ IsPlainOrHeld m.layout profile text d) makes here one)
+        (of_plain_made profile read cs i c old tree (λ x d text kinds. ¬ IsPlainOrHeld x profile text d) makes here one)
 
     by : (f : EditorFault) → TellsOne profile places i c part f → OfNoPlaceAt (λ at. IsNeitherOn profile read c tree) f → Stops profile read cs near old f
     by (faults.Edit j x) h one = record { passed = passed j h.0; spread = tt }

@@ -1,5 +1,5 @@
 -- What the editor answers where the first edits of a list are plain.
-use Rattle.std.proofs.Common.{◌≡◌, ◌⊎◌, inl, inr, ◌<◌, ◌≤◌, ℕ, zero, suc, List, [], ◌∷◌, length, take, Some, None, refl, sym, ap, subst, ◌∙◌, arith}
+use Rattle.std.proofs.Common.{◌≡◌, ◌⊎◌, inl, inr, ◌<◌, ◌≤◌, ℕ, zero, suc, List, [], ◌∷◌, length, take, Some, None, refl, sym, ap, subst, ◌∙◌, arith, subst₂}
 use Rattle.std.proofs.Math.Path.{fun_ext}
 use Rattle.std.specs.Prelude.{Result, Ok, Err, slice_get}
 use Rattle.std.proofs.lemmas.List.{take_all}
@@ -33,6 +33,8 @@ use Rattle.toml_editor.specs.declared.fault.EditorFault.TheVariants as faults
 use Rattle.toml_editor.proofs.written.WayComments.{le_or}
 use Rattle.toml_editor.proofs.written.Steps.{one_list_written, one_written}
 use Rattle.toml_working.specs.Manners.{Manner}
+use Rattle.toml_editor.specs.EditedLines.{manner_after}
+use Rattle.toml_editor.proofs.Mannered.{keeps_layout}
 
 compare : (a b : ℕ) → (a < b) ⊎ (a ≡ b) ⊎ (b < a)
 compare a b = elim (le_or a b) [
@@ -99,12 +101,16 @@ module _ (profile : Profile) where
   plain_at (x ∷ cs) (suc n) zero manner before after c (one, rest) written low is =
       subst (PlainAt (x ∷ cs) zero manner before) (same_Some x c is) (record { between = before; written = refl; plain = tt; here = one })
   plain_at (x ∷ cs) (suc n) (suc j) manner before after c (one, rest) (mid, first, others) low is =
-      let at = plain_at cs n j manner mid after c (rest mid first) others (omega (arith, low)) is in
+      let at = plain_at cs n j (manner_after x manner first.0.lines) mid after c (rest mid first) others (omega (arith, low)) is in
       record {
         between = at.between;
         written = (mid, first, at.written);
-        plain = (one, (λ m w. subst (ArePlain profile (take j cs) manner) (one_written profile x manner before mid m first w) at.plain));
-        here = at.here;
+        plain = (
+          one,
+          (λ m w. subst₂ (λ (d : Doc) t. ArePlain profile (take j cs) (manner_after x manner d.lines) t) (one_tree first.0 w.0 before first.1.0 w.1.0)
+              (one_written profile x manner before mid m first w) at.plain),
+        );
+        here = subst (λ l. IsPlainOn l profile at.between c) (keeps_layout x manner first.0.lines) at.here;
       }
 
 -- ---- where so many edits are plain

@@ -68,7 +68,7 @@ module _ (profile : Profile) (read : Read) (d : Doc) (before : List ℕ) (tree :
         let steps = plain_steps profile cs (manner tree) before all.after old now first.newline first.good lead all.written in
         let tree_is : steps.0.tree ≡ last = one_tree steps.0.tree last all.after steps.0.spelled.0 all.at.good.spelled.0 in
         let mark : d.mark ≡ last.mark = sym steps.1 ∙ ap (λ (e : Doc). e.mark) tree_is in
-        let there = subst (λ t. Stands t read new.slots.items (standing last.lines)) (ap (λ (s : Texts). text_of s.source) all.source.texts ∙ texts) all.at.stands in
+        let there = subst (λ t. Stands t read new.slots.items (standing last.lines)) (ap (λ (s : Texts). text_of s.source) all.texts ∙ texts) all.at.stands in
         lines_are_written before d.mark.text read new.slots.items last.lines out writes there
         ∙ ap (λ (m : Piece). m.text ++ joined (lines_parts last.lines)) mark ∙ text_is_spelled last all.after all.at.good.spelled.0
 

@@ -13,7 +13,7 @@ use Rattle.toml_checker.specs.Lines.{NoLinesAdded}
 use Rattle.toml_checker.specs.Pairs.{PairsFit, IsFirst}
 use Rattle.toml_checker.specs.Protected.{IsProtected}
 use Rattle.toml_editor.specs.Steps.{IsGoodText}
-use Rattle.toml_working.specs.Written.{IsWritten}
+use Rattle.toml_editor.specs.EditedLines.{IsWritten}
 use Rattle.toml_working.specs.Manners.{Manner}
 
 -- The pairs name just the protected units of the first tree; they fit, and the second tree has no line and no comment that is unasked.

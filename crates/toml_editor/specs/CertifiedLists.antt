@@ -15,7 +15,7 @@ use Rattle.toml_checker.specs.Outer.{IsOuter}
 use Rattle.toml_checker.specs.Pairs.{IsFirst}
 use Rattle.toml_editor.specs.CarriedUnits.{ArePartners}
 use Rattle.toml_editor.specs.Steps.{IsGoodText, IsPlain, AreWritten}
-use Rattle.toml_working.specs.Written.{IsWritten}
+use Rattle.toml_editor.specs.EditedLines.{IsWritten, manner_after}
 use Rattle.toml_working.specs.Manners.{Manner}
 
 -- Law: pairs of partners certify the text that a list of plain edits without a fault writes of a document.
@@ -54,7 +54,7 @@ abbrev pub ArePlain : Profile → List Change → Manner → List ℕ → Type 0
 ArePlain profile [] manner before = Unit {0}
 ArePlain profile (c ∷ cs) manner before =
     ((d : Doc) → SpellsIn profile d before → IsPlain manner.layout d.lines c)
-    × ((between : List ℕ) → IsWritten profile c manner before between → ArePlain profile cs manner between)
+    × ((between : List ℕ) (first : IsWritten profile c manner before between) → ArePlain profile cs (manner_after c manner first.0.lines) between)
 
 -- the text is good and has outer partners with the first one; within the limit of a text the verdict is yes by any such
 pub record IsCertifiedText (profile : Profile) (before : List ℕ) (old now : Kinds) (cs : List Change) (good : IsGoodText profile before old)

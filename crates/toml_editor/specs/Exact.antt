@@ -40,9 +40,9 @@ use Rattle.toml_editor.specs.SpelledEdits.{AreSteps}
 use Rattle.toml_working.specs.Standing.{AreOrdered, Read, Standing, holds, standing}
 use Rattle.toml_working.specs.Stands.{KeepsRest, KeepsTexts, Stands, TreeSets}
 use Rattle.toml_working.specs.Starting.{NoneIsGone}
-use Rattle.toml_editor.specs.Steps.{IsGoodText, AreWritten}
+use Rattle.toml_editor.specs.Steps.{IsGoodText, AreWritten, last_manner}
 use Rattle.toml_layout.specs.TreeOutlines.{value_outline}
-use Rattle.toml_working.specs.Written.{IsWritten}
+use Rattle.toml_editor.specs.EditedLines.{IsWritten, manner_after}
 
 -- the working tree stands for a text with these data, and no element of an array of tables is gone
 pub record IsAt (profile : Profile) (read : Read) (tree : Tree) (text : List ℕ) (kinds : Kinds) : Type 0 where
@@ -61,7 +61,8 @@ pub record Follows (profile : Profile) (read : Read) (c : Change) (old new : Tre
   pub after : List ℕ
   pub written : IsWritten profile c (manner old) text after
   pub at : IsAt profile read new after now
-  pub source : KeepsSource old new
+  pub texts : new.texts ≡ old.texts
+  pub mannered : manner new ≡ manner_after c (manner old) written.0.lines
 
 -- so it does where the edit is plain
 abbrev pub MakesOne : Profile → Read → Change → Tree → Tree → Type 0
@@ -74,7 +75,8 @@ pub record FollowAll (profile : Profile) (read : Read) (cs : List Change) (old n
   pub after : List ℕ
   pub written : AreWritten profile cs (manner old) text after
   pub at : IsAt profile read new after now
-  pub source : KeepsSource old new
+  pub texts : new.texts ≡ old.texts
+  pub mannered : manner new ≡ last_manner profile cs (manner old) text after written
 
 abbrev pub MakesAll : Profile → Read → List Change → Tree → Tree → Type 0
 MakesAll profile read cs old new = (text : List ℕ) (kinds now : Kinds) → IsAt profile read old text kinds

@@ -1,5 +1,6 @@
 pub mod Faults
 pub mod Edited
+pub mod EditedLines
 -- words of the code's own contracts
 pub mod Making
 pub mod Editing

@@ -17,7 +17,8 @@ use Rattle.toml_edits.specs.Faults.{IsFault}
 use Rattle.toml_edits.specs.Lists.{Lead}
 use Rattle.toml_layout.specs.declared.layout.Layout.{Layout}
 use Rattle.toml_layout.specs.declared.layout.Layout.TheVariants as layouts
-use Rattle.toml_working.specs.Written.{HasLine, HasSection, HasValue, IsInNoValue, IsWritten, style_of}
+use Rattle.toml_working.specs.Written.{HasLine, HasSection, HasValue, style_of}
+use Rattle.toml_editor.specs.EditedLines.{IsInNoValue, IsWritten, manner_after}
 use Rattle.toml_working.specs.Manners.{Manner}
 
 -- a text that a good tree of the profile spells, and its data
@@ -55,11 +56,16 @@ PlainStep = (profile : Profile) (c : Change) (manner : Manner) (before after : L
     → IsWritten profile c manner before after
     → (new : IsGoodText profile after now) × (new.tree.mark ≡ good.tree.mark)
 
--- the edits one after the other, each on the text written so far
+-- the edits one after the other, each on the text written so far, and by what those before it leave
 abbrev pub AreWritten : Profile → List Change → Manner → List ℕ → List ℕ → Type 0
 AreWritten profile [] manner before after = before ≡ after
-AreWritten profile (c ∷ cs) manner before after =
-    (between : List ℕ) × IsWritten profile c manner before between × AreWritten profile cs manner between after
+AreWritten profile (c ∷ cs) manner before after = (between : List ℕ) × (first : IsWritten profile c manner before between)
+    × AreWritten profile cs (manner_after c manner first.0.lines) between after
+
+-- what is written by behind them
+abbrev pub last_manner : (profile : Profile) (cs : List Change) (manner : Manner) (before after : List ℕ) → AreWritten profile cs manner before after → Manner
+last_manner profile [] manner before after written = manner
+last_manner profile (c ∷ cs) manner before after (between, first, rest) = last_manner profile cs (manner_after c manner first.0.lines) between after rest
 
 -- Law: so it is of a list of plain edits that leads from the data before to other data.
 abbrev pub PlainSteps : Type 0

@@ -40,5 +40,6 @@ pub mod Setting
 pub mod Inserting
 pub mod Removing
 pub mod Heading
+pub mod HeadingFollowed
 pub mod Renaming
 pub mod Written

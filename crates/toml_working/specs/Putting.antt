@@ -15,6 +15,7 @@ use Rattle.toml_working.specs.declared.working.Position.{Position}
 use Rattle.toml_working.specs.declared.working.Tree.{Tree}
 use Rattle.toml_working.specs.Becoming.{LineBecomes}
 use Rattle.toml_working.specs.FirstKeys.{spacing_put}
+use Rattle.toml_working.specs.Following.{may_write_blank}
 use Rattle.toml_working.specs.InsertStanding.{AreRooted, end_in, has_pair, insert_first, insert_standing, line_put, new_outline}
 use Rattle.toml_working.specs.Manners.{Manner}
 use Rattle.toml_working.specs.OpeningLines.{HasOutline}
@@ -106,7 +107,7 @@ IsRootName = IsNameIn []
 
 -- what is written by on a tree
 abbrev pub manner : Tree → Manner
-manner tree = record { newline = leaf_text tree.style; layout = tree.texts.layout }
+manner tree = record { newline = leaf_text tree.style; layout = tree.texts.layout; may_blank = may_write_blank tree }
 
 -- the line of a name in a table, in the plain layout
 abbrev pub IsPairLine : Address → ℕ → List (String Global) → ValueOutline → List ℕ → Line → Type 0

@@ -37,6 +37,7 @@ impl<'x> Tree<'x> {
         ensures renames { OnOk result (TreeRenames at.now name.now spelled.now (read_of before.entry) self.old self.new) }
         ensures texts { OnOk result (self.new.texts ≡ self.old.texts) }
         ensures style { OnOk result (self.new.style ≡ self.old.style) }
+        ensures blank { OnOk result (self.new.has_written_blank ≡ self.old.has_written_blank) }
         ensures elements { OnOk result (NoneIsGone self.old.elements → NoneIsGone self.new.elements) }
     {
         let renaming = Renaming { at, name, spelled };
@@ -67,6 +68,7 @@ impl<'x> Tree<'x> {
         ensures slots { OnOk result (TreeBecomes (read_of before.entry) (renamed_below renaming.entry) self.old self.new) }
         ensures texts { OnOk result (self.new.texts ≡ self.old.texts) }
         ensures style { OnOk result (self.new.style ≡ self.old.style) }
+        ensures blank { OnOk result (self.new.has_written_blank ≡ self.old.has_written_blank) }
         ensures elements { OnOk result (NoneIsGone self.old.elements → NoneIsGone self.new.elements) }
     {
         rename_in_slots(&mut self.slots, self.texts, before, renaming)?;

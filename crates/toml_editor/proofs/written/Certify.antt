@@ -1,5 +1,5 @@
 -- That what lists of plain edits write is certified.
-use Rattle.std.proofs.Common.{◌≡◌, inl, ℕ, List, [], ◌∷◌, refl, sym, ap, ◌∙◌}
+use Rattle.std.proofs.Common.{◌≡◌, inl, ℕ, List, [], ◌∷◌, refl, sym, ap, ◌∙◌, subst}
 use Rattle.toml_text.specs.Forms.{IsNewline}
 use Rattle.toml_text.specs.Limit.{IsText}
 use Rattle.toml_tree.specs.Spells.{mark_of}
@@ -20,6 +20,8 @@ use Rattle.toml_editor.proofs.written.OuterPairs.{outer_of, outer_pairs_fit, out
 use Rattle.toml_editor.proofs.written.Steps.{good_texts_are_documents, plain_is_written, plain_step, plain_steps}
 use Rattle.toml_editor.proofs.written.UnitsListed.{list_is_carried}
 use Rattle.toml_working.specs.Manners.{Manner}
+use Rattle.toml_editor.specs.EditedLines.{manner_after}
+use Rattle.toml_editor.proofs.Mannered.{keeps_newline}
 
 -- the demands that are not of pairs
 module _ (cs : List Change) (profile : Profile) (manner : Manner) (before after : List ℕ) (old now : Kinds) (newline : IsNewline manner.newline)
@@ -71,7 +73,8 @@ list_is_written [] profile manner before old now newline good lead plain = (befo
 list_is_written (c ∷ cs) profile manner before old now newline good (none, mid, is_after, lead) plain =
     let first = plain_is_written profile c manner before old mid good is_after (plain.0 good.tree good.spelled) in
     let step = plain_step profile c manner before first.0 old mid newline good none is_after first.1 in
-    let others = list_is_written cs profile manner first.0 mid now newline step.0 lead (plain.1 first.0 first.1) in
+    let others = list_is_written cs profile (manner_after c manner first.1.0.lines) first.0 mid now
+    (subst IsNewline (sym (keeps_newline c manner first.1.0.lines)) newline) step.0 lead (plain.1 first.0 first.1) in
     (others.0, (first.0, first.1, others.1))
 
 -- what they write is a good text, and has outer partners with the first one

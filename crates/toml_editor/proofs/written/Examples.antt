@@ -170,7 +170,7 @@ set_over_lines = refl
 -- ---- insert
 
 abbrev pub plain : List ℕ → Manner
-plain newline = record { newline = newline; layout = layouts.Plain }
+plain newline = record { newline = newline; layout = layouts.Plain; may_blank = true }
 
 -- behind the last keyval line before the first header, with the newline of the style: `"z z" = 9`, CR, LF
 inserted : text (insert_lines (0x7A ∷ 0x20 ∷ 0x7A ∷ []) nine (plain (0x0D ∷ 0x0A ∷ [])) document) ≡ first ++ (0x22 ∷ 0x7A ∷ 0x20 ∷ 0x7A ∷ 0x22 ∷ 0x20 ∷ 0x3D ∷ 0x20 ∷ 0x39 ∷ 0x0D ∷ 0x0A ∷ []) ++ table ++ third ++ array ++ fourth ++ last
@@ -190,7 +190,7 @@ inserted_first = refl
 -- ---- insert as the neighbours are written
 
 abbrev pub follow : Manner
-follow = record { newline = 0x0A ∷ []; layout = layouts.Follow }
+follow = record { newline = 0x0A ∷ []; layout = layouts.Follow; may_blank = true }
 
 -- a key line with this whitespace before it and before its `=`, and behind that: `d`, `=`, `1`
 abbrev pub spaced_pair : List ℕ → List ℕ → List ℕ → Line

@@ -14,7 +14,7 @@ use Rattle.toml_edits.specs.Edits.{Change, set, remove}
 use Rattle.toml_edits.specs.Faults.{IsFault}
 use Rattle.toml_layout.specs.declared.texts.Texts.{Texts}
 use Rattle.toml_working.specs.declared.working.Tree.{Tree}
-use Rattle.toml_editor.specs.Exact.{Follows, IsAt, KeepsSource}
+use Rattle.toml_editor.specs.Exact.{Follows, IsAt}
 use Rattle.toml_layout.specs.OpenOutlines.{leaf_text}
 use Rattle.toml_working.specs.Manners.{Manner}
 use Rattle.toml_working.specs.Putting.{manner}
@@ -26,7 +26,9 @@ use Rattle.toml_working.specs.Stands.{KeepsRest, SetsLines, Stands}
 use Rattle.toml_working.specs.Starting.{NoneIsGone}
 use Rattle.toml_editor.specs.Steps.{IsGoodText, IsPlain}
 use Rattle.toml_layout.specs.TreeOutlines.{value_outline}
-use Rattle.toml_working.specs.Written.{AreEdited, HasLine, HasValue, IsWritten}
+use Rattle.toml_working.specs.Written.{HasLine, HasValue}
+use Rattle.toml_editor.specs.EditedLines.{AreEdited, IsWritten, manner_after}
+use Rattle.toml_editor.proofs.Mannered.{keeps_newline}
 use Rattle.toml_editor.proofs.SourceKept.{source_kept}
 use Rattle.toml_editor.proofs.written.RemoveNamed.{line_parts}
 use Rattle.toml_editor.proofs.written.RemovedEither.{remove_stands}
@@ -41,9 +43,10 @@ use Rattle.toml_editor.proofs.written.StandingOrder.{rules_order}
 pub follows : (profile : Profile) (read : Read) (c : Change) (old new : Tree) (text : List ℕ) (kinds now : Kinds) (edited : List Line) → IsNewline (leaf_text old.style)
     → (good : IsGoodText profile text kinds) → IsFault profile c kinds None → IsAfter profile c kinds now
     → AreEdited profile c (manner old) good.tree.lines edited
-    → Stands (text_of new.texts.source) read new.slots.items (standing edited) → NoneIsGone new.elements → KeepsSource old new
+    → Stands (text_of new.texts.source) read new.slots.items (standing edited) → NoneIsGone new.elements → new.texts ≡ old.texts
+    → manner new ≡ manner_after c (manner old) good.tree.lines
     → Follows profile read c old new text now
-follows profile read c old new text kinds now edited newline good none is_after are stands whole source =
+follows profile read c old new text kinds now edited newline good none is_after are stands whole texts mannered =
     let after = good.tree.mark.text ++ joined (lines_parts edited) in
     let written : IsWritten profile c (manner old) text after = (good.tree, good.spelled, edited, are, refl) in
     let step = plain_step profile c (manner old) text after kinds now newline good none is_after written in
@@ -56,9 +59,10 @@ follows profile read c old new text kinds now edited newline good none is_after 
         good = step.0;
         stands = subst (Stands (text_of new.texts.source) read new.slots.items) (sym (places_do_not_stand step.0.tree.lines edited same)) stands;
         whole = whole;
-        newline = subst (λ (m : Manner). IsNewline m.newline) (sym source.mannered) newline;
+        newline = subst IsNewline (sym (ap (λ (m : Manner). m.newline) mannered ∙ keeps_newline c (manner old) good.tree.lines)) newline;
       };
-      source = source;
+      texts = texts;
+      mannered = mannered;
     }
 
 -- a `set` of a value that is there is made, and the tree then stands for the text that it writes
@@ -77,7 +81,7 @@ module _ (profile : Profile) (read : Read) (old new : Tree) (p : Address) (value
       subst₂ (λ (s : Texts) ls. Stands (text_of s.source) read new.slots.items ls) (sym rest.texts) (sym (set_stands p v lines apart there rules)) made.0 in (
         made.1 ∙ value_stands p lines apart there,
         follows profile read (set p value) old new text kinds now edited at.newline at.good none is_after (v, is, there, refl) stands
-            (subst NoneIsGone (sym rest.elements) at.whole) (source_kept old new rest.texts rest.style),
+            (subst NoneIsGone (sym rest.elements) at.whole) rest.texts (source_kept old new rest.texts rest.style rest.blank).mannered,
       )
 
 -- a `set` that is made is one of a value that is there
@@ -108,4 +112,4 @@ remove_follows profile read old new p text kinds now at none is_after there remo
     let stands : Stands (text_of new.texts.source) read new.slots.items (standing edited) =
     subst₂ (λ (s : Texts) ls. Stands (text_of s.source) read new.slots.items ls) (sym rest.texts) (sym (remove_stands p lines there at.good.good.0)) made in
     follows profile read (remove p) old new text kinds now edited at.newline at.good none is_after (there, refl) stands
-    (subst NoneIsGone (sym rest.elements) at.whole) (source_kept old new rest.texts rest.style)
+    (subst NoneIsGone (sym rest.elements) at.whole) rest.texts (source_kept old new rest.texts rest.style rest.blank).mannered

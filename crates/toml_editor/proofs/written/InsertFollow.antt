@@ -50,7 +50,7 @@ module _ (profile : Profile) (read : Read) (old new : Tree) (value text : List �
       follows profile read (insert (child q name) value) old new text kinds now (insert_in q name v (manner old) lines) at.newline at.good none is_after
       (v, is, q, name, refl, there, refl)
       (subst (λ (s : Texts). Stands (text_of s.source) read new.slots.items (standing (insert_in q name v (manner old) lines))) (sym rest.texts) made)
-      (subst NoneIsGone (sym rest.elements) at.whole) (source_kept old new rest.texts rest.style)
+      (subst NoneIsGone (sym rest.elements) at.whole) rest.texts (source_kept old new rest.texts rest.style rest.blank).mannered
 
 -- the spelling of the last step
 name_spelled : (q : Address) (name : List ℕ) (p : Address) (steps : List (String Global)) → p ≡ child q name → AreSteps p steps → IsNameIn q name p steps

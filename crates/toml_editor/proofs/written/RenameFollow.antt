@@ -48,4 +48,4 @@ module _ (profile : Profile) (read : Read) (old new : Tree) (p : Address) (to te
       let made = writes.lines (none RootNamed) (standing lines) at.stands (rules_order lines at.good.good.0) in
       let stands : Stands (text_of new.texts.source) read new.slots.items (standing (rename_lines p to lines)) =
       subst₂ (λ (s : Texts) ls. Stands (text_of s.source) read new.slots.items ls) (sym writes.source.texts) (sym renamed) made in
-      follows profile read (rename p to) old new text kinds now (rename_lines p to lines) at.newline at.good none is_after refl stands writes.whole writes.source
+      follows profile read (rename p to) old new text kinds now (rename_lines p to lines) at.newline at.good none is_after refl stands writes.whole writes.source.texts writes.source.mannered

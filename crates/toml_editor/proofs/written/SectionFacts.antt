@@ -15,7 +15,7 @@ use Rattle.toml_layout.specs.declared.tree.Brackets.TheVariants.{One}
 use Rattle.toml_working.specs.Heading.{header_lines}
 use Rattle.toml_working.specs.Headers.{innermost, new_header, put_plainly}
 use Rattle.toml_working.specs.Standing.{standing}
-use Rattle.toml_working.specs.Written.{IsInNoValue}
+use Rattle.toml_editor.specs.EditedLines.{IsInNoValue}
 use Rattle.toml_editor.proofs.written.ElementHeaded.{element_headed}
 use Rattle.toml_editor.proofs.written.Fitting.{at_most}
 use Rattle.toml_editor.proofs.written.HeaderLeads.{leads}

@@ -30,7 +30,8 @@ use Rattle.toml_working.specs.Removing.{remove_lines}
 use Rattle.toml_working.specs.Renaming.{rename_lines}
 use Rattle.toml_working.specs.Setting.{set_lines}
 use Rattle.toml_editor.specs.Steps.{IsGoodText, IsPlain, GoodTextsAreDocuments, PlainIsWritten, PlainStep, PlainSteps, AreWritten, OneWritten, OneListWritten}
-use Rattle.toml_working.specs.Written.{AreEdited, IsWritten}
+use Rattle.toml_editor.specs.EditedLines.{AreEdited, IsWritten, manner_after}
+use Rattle.toml_editor.proofs.Mannered.{keeps_newline}
 use Rattle.toml_editor.proofs.written.Fitting.{all_fit, keeps_value, unnamed, last_step}
 use Rattle.toml_editor.proofs.written.InsertFormed.{insert_forms}
 use Rattle.toml_editor.proofs.written.InsertKept.{insert_rules, insert_short, insert_data}
@@ -176,7 +177,8 @@ plain_steps profile [] manner before after old now newline good lead written = (
 )
 plain_steps profile (c ∷ cs) manner before after old now newline good lead written =
     let one = plain_step profile c manner before written.0 old lead.1 newline good lead.0 lead.2 written.1 in
-    let more = plain_steps profile cs manner written.0 after lead.1 now newline one.0 lead.3 written.2 in
+    let more = plain_steps profile cs (manner_after c manner written.1.0.lines) written.0 after lead.1 now
+    (subst IsNewline (sym (keeps_newline c manner written.1.0.lines)) newline) one.0 lead.3 written.2 in
     (more.0, more.1 ∙ one.1)
 
 -- ---- one text
@@ -202,4 +204,6 @@ pub one_list_written : OneListWritten
 one_list_written profile [] manner before one two is is' = sym is ∙ is'
 one_list_written profile (c ∷ cs) manner before one two (between, is, more) (between', is', more') =
     let same : between ≡ between' = one_written profile c manner before between between' is is' in
-    one_list_written profile cs manner between' one two (subst (λ b. AreWritten profile cs manner b one) same more) more'
+    let docs : is.0 ≡ is'.0 = one_tree is.0 is'.0 before is.1.0 is'.1.0 in
+    one_list_written profile cs (manner_after c manner is'.0.lines) between' one two
+    (subst₂ (λ (d : Doc) b. AreWritten profile cs (manner_after c manner d.lines) b one) docs same more) more'

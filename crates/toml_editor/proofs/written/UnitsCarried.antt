@@ -39,7 +39,8 @@ use Rattle.toml_editor.proofs.written.WayComments.{comments}
 use Rattle.toml_working.specs.Setting.{set_lines}
 use Rattle.toml_layout.specs.declared.tree.Brackets.TheVariants.{One}
 use Rattle.toml_working.specs.Heading.{header_lines}
-use Rattle.toml_working.specs.Written.{HasLine, HasSection, HasValue, IsInNoValue, IsWritten}
+use Rattle.toml_working.specs.Written.{HasLine, HasSection, HasValue}
+use Rattle.toml_editor.specs.EditedLines.{IsInNoValue, IsWritten}
 use Rattle.toml_editor.proofs.written.SectionFacts.{section_goes, section_room}
 use Rattle.toml_editor.proofs.written.SectionFormed.{section_forms}
 use Rattle.toml_editor.proofs.written.SetKept.{set_short}

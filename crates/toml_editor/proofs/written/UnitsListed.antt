@@ -32,6 +32,8 @@ use Rattle.toml_editor.proofs.written.WayKept.{same_way, same_olds, same_news, s
 use Rattle.toml_editor.proofs.written.WayOn.{goes_on}
 use Rattle.toml_editor.proofs.written.WayWhole.{HasWay, partners, same_newlines, as_many}
 use Rattle.toml_working.specs.Manners.{Manner}
+use Rattle.toml_editor.specs.EditedLines.{manner_after}
+use Rattle.toml_editor.proofs.Mannered.{keeps_newline}
 
 -- ---- no edit
 
@@ -156,7 +158,8 @@ list_goes [] profile manner before after old now newline good lead is new =
 list_goes (c ∷ cs) profile manner before after old now newline good (none, mid, is_after, lead) (between, is, more) new =
     let one = plain_step profile c manner before between old mid newline good none is_after is in
     let gone = plain_goes c profile manner before between old mid newline good none is_after is in
-    let others = list_goes cs profile manner between after mid now newline one.0 lead more new in
+    let others = list_goes cs profile (manner_after c manner is.0.lines) between after mid now (subst IsNewline (sym (keeps_newline c manner is.0.lines)) newline) one.0
+    lead more new in
     let again = lines_again c profile before between old mid good one.0 gone in
     record {
       comments_in = gone.comments_in ∷ others.comments_in;

@@ -40,7 +40,7 @@ returns-clause-told c =
     let any = any_of_all profile (place (named d.lines)) (is_hidden c.args.touched.now) old cs c.requires.touched part near fault told.told in
     let both = stops_told profile (read_of c.args.read.before) d text c.in-Ok.tree document
     spells opened.stands (ap (λ (t : Texts). text_of t.source) opened.texts_are) opened.elements c.args.layout
-    (as_read c.args.layout _ c.in-Ok.tree d.lines opened.texts_are refl opened.style)
+    (as_read c.args.layout _ c.in-Ok.tree d opened.texts_are refl opened.style opened.blank spells)
     (is_hidden c.args.touched.now) cs c.requires.touched old facts part near fault told.stops in
     any_tells c.args.layout profile text cs d old fault document spells facts any both.0 both.1
 
@@ -61,7 +61,7 @@ returns-in-Ok-make_all-clause-made c =
     let leads = leads_beside profile (is_hidden c.args.touched.now) cs old part new
     c.requires.touched near c.in-Ok-make_all.ensures.made.lead in
     let opened = c.in-Ok.ensures in
-    let mannered = as_read c.args.layout _ c.in-Ok.tree d.lines opened.texts_are refl opened.style in
+    let mannered = as_read c.args.layout _ c.in-Ok.tree d opened.texts_are refl opened.style opened.blank spells in
     if_ok_two _ _ _ c.write_out.result
     (λ made pieces written. record {
       plain =
