@@ -65,7 +65,7 @@ module _ (layout : Layout) (profile : Profile) (before : List ℕ) (some left : 
     data_so_far P (d, spells, old, facts, so) = (d, spells, old, facts, so_far old P so)
 
     neither_edit : IsNeitherPlainNorHeld layout profile before some k → IsNeitherPlainNorHeld layout profile before (some ++ left) k
-    neither_edit (d, spells, none) = (d, spells, after_plain d (λ c text. ¬ IsPlainOrHeld layout profile text c) none)
+    neither_edit (d, spells, none) = (d, spells, after_plain d (λ c text. ¬ IsPlainOrHeld profile text c) none)
 
   no_spread : (n : ℕ) → n ≤ length some → NoSpreadSet layout profile before some n → NoSpreadSet layout profile before (some ++ left) n
   no_spread n within (d, spells, none) = (d, spells, λ k low. after_plain k (omega (arith, within, low)) d (λ c text. ¬ IsSpreadSet profile text c) (none k low))

@@ -35,7 +35,6 @@ use Rattle.toml_working.proofs.Proved.{held_inside, parent_held}
 use Rattle.toml_working.specs.HeldLines.{has_container_at}
 use Rattle.toml_working.specs.Standing.{Read, holds, standing}
 use Rattle.toml_working.specs.Stands.{Stands}
-use Rattle.toml_layout.specs.declared.layout.Layout.{Layout}
 use Rattle.toml_editor.specs.Steps.{AreWritten, last_manner}
 use Rattle.toml_editor.specs.EditedLines.{IsWritten, manner_after}
 use Rattle.toml_editor.proofs.Mannered.{last_layout}
@@ -43,7 +42,7 @@ use Rattle.toml_editor.proofs.written.Follow.{remove_follows, set_follows, set_i
 use Rattle.toml_editor.proofs.written.InsertFollow.{insert_follows}
 use Rattle.toml_editor.proofs.written.RemoveNamed.{line_parts}
 use Rattle.toml_editor.proofs.written.RenameFollow.{rename_follows}
-use Rattle.toml_editor.proofs.written.SectionFollow.{section_follows}
+use Rattle.toml_editor.proofs.written.HeaderFollow.{element_follows, section_follows}
 use Rattle.toml_editor.proofs.written.StandingOrder.{rules_order}
 use Rattle.toml_editor.proofs.written.Steps.{one_list_written}
 use Rattle.toml_working.specs.Manners.{Manner}
@@ -51,7 +50,7 @@ use Rattle.toml_working.specs.Manners.{Manner}
 -- a `set` that is plain is made, and what is written of it on the working tree is what it writes
 set_made : (profile : Profile) (read : Read) (p : Address) (value : List ℕ) (old new : Tree) (done : Bool) → WritesEdit profile read (set p value) old new done
     → (text : List ℕ) (kinds now : Kinds) → IsAt profile read old text kinds → IsFault profile (set p value) kinds None
-    → IsAfter profile (set p value) kinds now → IsPlainOn (manner old).layout profile text (set p value) → (done ≡ true) × Follows profile read (set p value) old new text now
+    → IsAfter profile (set p value) kinds now → IsPlainOn profile text (set p value) → (done ≡ true) × Follows profile read (set p value) old new text now
 set_made profile read p value old new done writes text kinds now at none is_after plain =
     let (rest, sets) = writes at.whole in
     let given = is_after.1.value in
@@ -75,7 +74,9 @@ makes_one profile read (remove p) old new done writes text kinds now at none is_
 makes_one profile read (new_section p) old new done writes text kinds now at none is_after plain =
     let (steps, spelled, rest, puts) = writes at.whole in
     (section_follows profile read old new p text kinds now at none is_after (plain at.good.tree at.good.spelled) rest steps spelled done puts).1
-makes_one profile read (new_element p) old new done writes text kinds now at none is_after plain = absurd (plain at.good.tree at.good.spelled)
+makes_one profile read (new_element p) old new done writes text kinds now at none is_after plain =
+    let (steps, spelled, rest, puts) = writes at.whole in
+    (element_follows profile read old new p text kinds now at none is_after (plain at.good.tree at.good.spelled) rest steps spelled done puts).1
 
 -- one that changes an array or an inline table in the value of a line
 put_there : (q : Address) (last : Step) (lines : List Line) → IsPutThere lines q last → list_any (holds q) (standing lines) ≡ true
@@ -155,7 +156,7 @@ pub not_spread : (profile : Profile) (read : Read) (places : Places) (i : ℕ) (
 not_spread profile read places i seen (set p value) old new done writes is may text kinds now at none is_after one =
     true≢false (sym (set_made profile read p value old new done writes text kinds now at none is_after plain).0 ∙ is)
   where
-    plain : IsPlainOn (manner old).layout profile text (set p value)
+    plain : IsPlainOn profile text (set p value)
     plain d spelled = elim (one d spelled) [
       | inl h ↦ h
       | inr h ↦ absurd h
@@ -174,7 +175,9 @@ not_spread profile read places i seen (new_section p) old new done writes is may
   | inr h ↦ h
 ]
 not_spread profile read places i seen (new_element p) old new done writes is may text kinds now at none is_after one = elim (one at.good.tree at.good.spelled) [
-  | inl h ↦ h
+  | inl h ↦
+      let (steps, spelled, rest, puts) = writes at.whole in
+      true≢false (sym (element_follows profile read old new p text kinds now at none is_after h rest steps spelled done puts).0 ∙ is)
   | inr h ↦ h
 ]
 
@@ -257,8 +260,8 @@ lead_parted profile (d ∷ cs) c old now (none, mid, is_after, lead) =
 
 -- and on the text that they write
 plain_parted : (profile : Profile) (cs : List Change) (c : Change) (manner : Manner) (text : List ℕ) → ArePlain profile (cs ++ c ∷ []) manner text
-    → ArePlain profile cs manner text × ((between : List ℕ) (edits : AreWritten profile cs manner text between) → IsPlainOn (last_manner profile cs manner text between edits).layout profile between c)
-plain_parted profile [] c manner text plain = (tt, λ between is. subst (λ t. IsPlainOn manner.layout profile t c) is plain.0)
+    → ArePlain profile cs manner text × ((between : List ℕ) → AreWritten profile cs manner text between → IsPlainOn profile between c)
+plain_parted profile [] c manner text plain = (tt, λ between is. subst (λ t. IsPlainOn profile t c) is plain.0)
 plain_parted profile (d ∷ cs) c manner text plain = (
   (plain.0, λ first is. (plain_parted profile cs c (manner_after d manner is.0.lines) first (plain.1 first is)).0),
   λ between written. (plain_parted profile cs c (manner_after d manner written.1.0.lines) written.0 (plain.1 written.0 written.1)).1 between written.2,
@@ -281,8 +284,7 @@ more_made profile read cs c old tree new all makes text kinds now at lead plain 
     let (mid, first, none, is_after) = lead_parted profile cs c kinds now lead in
     let (plain_all, plain_one) = plain_parted profile cs c (manner old) text plain in
     let here = all text kinds mid at first plain_all in
-    let one = makes here.after mid now here.at none is_after
-    (subst (λ (m : Manner). IsPlainOn m.layout profile here.after c) (sym here.mannered) (plain_one here.after here.written)) in
+    let one = makes here.after mid now here.at none is_after (plain_one here.after here.written) in
     let written = subst (λ m. IsWritten profile c m here.after one.after) here.mannered one.written in
     record {
       after = one.after;
@@ -321,15 +323,14 @@ abbrev pub OfOne : Profile → Read → Change → Tree → (Change → List ℕ
 OfOne profile read c tree P = (text : List ℕ) (kinds now : Kinds) → IsAt profile read tree text kinds
     → IsFault profile c kinds None → IsAfter profile c kinds now → P c text kinds
 
-of_plain_made : (profile : Profile) (read : Read) (cs : List Change) (i : ℕ) (c : Change) (old tree : Tree) (P : Layout → Change → List ℕ → Kinds → Type 0)
-    → MakesAll profile read (take i cs) old tree → slice_get cs i ≡ Some c → OfOne profile read c tree (P (manner tree).layout) → OfPlain profile read cs old i (P (manner old).layout)
+of_plain_made : (profile : Profile) (read : Read) (cs : List Change) (i : ℕ) (c : Change) (old tree : Tree) (P : Change → List ℕ → Kinds → Type 0)
+    → MakesAll profile read (take i cs) old tree → slice_get cs i ≡ Some c → OfOne profile read c tree P → OfPlain profile read cs old i P
 of_plain_made profile read cs i c old tree P makes here one d there text kinds mid now at lead none is_after plain between written =
     let all = makes text kinds mid at lead plain in
     let same : c ≡ d = same_Some c d (sym here ∙ there) in
     let text_is : all.after ≡ between = one_list_written profile (take i cs) (manner old) text all.after between all.written written in
-    subst (λ x. P x d between mid) (ap (λ (m : Manner). m.layout) all.mannered ∙ last_layout profile (take i cs) (manner old) text all.after all.written)
-    (subst₂ (λ e t. P (manner tree).layout e t mid) same text_is
-    (one all.after mid now all.at (subst (λ e. IsFault profile e mid None) (sym same) none) (subst (λ e. IsAfter profile e mid now) (sym same) is_after)))
+    subst₂ (λ e t. P e t mid) same text_is
+    (one all.after mid now all.at (subst (λ e. IsFault profile e mid None) (sym same) none) (subst (λ e. IsAfter profile e mid now) (sym same) is_after))
 
 -- the first so many set nothing that is spread, nor does one more
 pub none_passed : (profile : Profile) (read : Read) (cs : List Change) (near : Kinds) (tree : Tree) → PassesAll profile read cs near 0 tree
@@ -344,7 +345,7 @@ more_passed profile read cs near part i c old tree so_far lead makes here one k 
     by (inl less) = so_far k less
     by (inr least) =
         let same : i ≡ k = omega (arith, low, least) in
-        subst (PassesAt profile read cs near old) same (part, lead, of_plain_made profile read cs i c old tree (λ x d text kinds. part (place d) ≡ kinds (place d) → ¬ IsSpreadOn profile text d kinds) makes here one)
+        subst (PassesAt profile read cs near old) same (part, lead, of_plain_made profile read cs i c old tree (λ d text kinds. part (place d) ≡ kinds (place d) → ¬ IsSpreadOn profile text d kinds) makes here one)
 
 -- the fault with which they end
 pub stops_at : (profile : Profile) (read : Read) (places : Places) (cs : List Change) (near part : Kinds) (i : ℕ) (c : Change) (old tree : Tree)
@@ -357,7 +358,7 @@ stops_at profile read places cs near part i c old tree fault so_far makes here t
 
     not_at : (j : ℕ) → j ≡ i → IsNeitherOn profile read c tree → IsNeitherAt profile read cs j old
     not_at j is one = subst (λ n. IsNeitherAt profile read cs n old) (sym is)
-        (of_plain_made profile read cs i c old tree (λ x d text kinds. ¬ IsPlainOrHeld x profile text d) makes here one)
+        (of_plain_made profile read cs i c old tree (λ d text kinds. ¬ IsPlainOrHeld profile text d) makes here one)
 
     by : (f : EditorFault) → TellsOne profile places i c part f → OfNoPlaceAt (λ at. IsNeitherOn profile read c tree) f → Stops profile read cs near old f
     by (faults.Edit j x) h one = record { passed = passed j h.0; spread = tt }

@@ -84,8 +84,7 @@ module _ (profile : Profile) (read : Read) (d : Doc) (before : List ℕ) (tree :
     d,
     spelled,
     (λ c is old mid now facts lead none is_after plain between written.
-        after_plain cs j (λ c text kinds. ¬ IsPlainOrHeld layout profile text c)
-        (subst (λ (m : Manner). OfPlain profile read cs tree j (λ e t k. ¬ IsPlainOrHeld m.layout profile t e)) mannered not) c is old mid now facts lead none is_after plain between written),
+        after_plain cs j (λ c text kinds. ¬ IsPlainOrHeld profile text c) not c is old mid now facts lead none is_after plain between written),
   )
 
   pub neither_edit_of : (cs : List Change) (fault : EditorFault) → OfNoPlaceAt (λ j. IsNeitherAt profile read cs j tree) fault

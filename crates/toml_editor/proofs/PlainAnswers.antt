@@ -34,7 +34,6 @@ use Rattle.toml_editor.proofs.written.WayComments.{le_or}
 use Rattle.toml_editor.proofs.written.Steps.{one_list_written, one_written}
 use Rattle.toml_working.specs.Manners.{Manner}
 use Rattle.toml_editor.specs.EditedLines.{manner_after}
-use Rattle.toml_editor.proofs.Mannered.{keeps_layout}
 
 compare : (a b : ℕ) → (a < b) ⊎ (a ≡ b) ⊎ (b < a)
 compare a b = elim (le_or a b) [
@@ -92,7 +91,7 @@ module _ (profile : Profile) where
     pub between : List ℕ
     pub written : AreWritten profile (take j cs) manner before between
     pub plain : ArePlain profile (take j cs) manner before
-    pub here : IsPlainOn manner.layout profile between c
+    pub here : IsPlainOn profile between c
 
   plain_at : (cs : List Change) (n j : ℕ) (manner : Manner) (before after : List ℕ) (c : Change) → ArePlain profile (take n cs) manner before
       → AreWritten profile (take n cs) manner before after → j < n → slice_get cs j ≡ Some c → PlainAt cs j manner before c
@@ -110,7 +109,7 @@ module _ (profile : Profile) where
           (λ m w. subst₂ (λ (d : Doc) t. ArePlain profile (take j cs) (manner_after x manner d.lines) t) (one_tree first.0 w.0 before first.1.0 w.1.0)
               (one_written profile x manner before mid m first w) at.plain),
         );
-        here = subst (λ l. IsPlainOn l profile at.between c) (keeps_layout x manner first.0.lines) at.here;
+        here = at.here;
       }
 
 -- ---- where so many edits are plain
@@ -145,7 +144,7 @@ module _ (layout : Layout) (profile : Profile) (before : List ℕ) (cs : List Ch
   no_spread_before j c is low neither =
       let at = defined_at profile cs n j so_far.old now c so_far.lead low is in
       let text = plain_at profile cs n j manner before after c so_far.plain so_far.written low is in
-      of_tree (λ x. AfterPlain layout profile before cs x j (λ c text. ¬ IsPlainOrHeld layout profile text c)) neither c is so_far.old at.mid at.next so_far.facts at.lead at.none
+      of_tree (λ x. AfterPlain layout profile before cs x j (λ c text. ¬ IsPlainOrHeld profile text c)) neither c is so_far.old at.mid at.next so_far.facts at.lead at.none
       at.is_after text.plain text.between text.written (λ e spells. inl (text.here e spells))
 
 -- what stands of an edit of a list

@@ -21,6 +21,7 @@ pub mod EmptyAlone
 pub mod EmptyKept
 pub mod EmptyLines
 pub mod EmptyNamed
+pub mod ElementFacts
 pub mod EmptyStands
 pub mod Examples
 pub mod ExamplesBelow
@@ -29,6 +30,8 @@ pub mod Exchanged
 pub mod Fitting
 pub mod Follow
 pub mod Formed
+pub mod HeaderFollow
+pub mod HeaderGoes
 pub mod HeaderLeads
 pub mod HeaderPlace
 pub mod HeaderPut
@@ -73,7 +76,6 @@ pub mod RenameTexts
 pub mod RootPairs
 pub mod ScalarsLone
 pub mod SectionFacts
-pub mod SectionFollow
 pub mod SectionFormed
 pub mod SectionKept
 pub mod SectionNamed

@@ -53,7 +53,7 @@ OuterPartnersCertify = (cs : List Change) (profile : Profile) (manner : Manner) 
 abbrev pub ArePlain : Profile → List Change → Manner → List ℕ → Type 0
 ArePlain profile [] manner before = Unit {0}
 ArePlain profile (c ∷ cs) manner before =
-    ((d : Doc) → SpellsIn profile d before → IsPlain manner.layout d.lines c)
+    ((d : Doc) → SpellsIn profile d before → IsPlain d.lines c)
     × ((between : List ℕ) (first : IsWritten profile c manner before between) → ArePlain profile cs (manner_after c manner first.0.lines) between)
 
 -- the text is good and has outer partners with the first one; within the limit of a text the verdict is yes by any such

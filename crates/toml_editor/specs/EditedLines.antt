@@ -5,13 +5,15 @@ use Rattle.toml_tree.specs.Profiles.{SpellsIn, IsValueIn}
 use Rattle.toml_tree.specs.Spells.{joined, lines_parts}
 use Rattle.toml_tree.specs.Tree.{Value, Line, Doc}
 use Rattle.toml_tree.specs.declared.profile.Profile.{Profile}
-use Rattle.toml_names.specs.model.Addresses.{Address, child}
+use Rattle.toml_names.specs.model.Addresses.{Address, child, element}
 use Rattle.toml_edits.specs.Edits.{Change, set, insert, rename, remove, new_section, new_element}
+use Rattle.toml_layout.specs.declared.layout.Layout.{Layout}
 use Rattle.toml_layout.specs.declared.layout.Layout.TheVariants as layouts
 use Rattle.toml_layout.specs.declared.tree.Brackets.{Brackets}
 use Rattle.toml_layout.specs.declared.tree.Brackets.TheVariants.{One, Two}
 use Rattle.toml_layout.specs.Holders.{parent_of}
 use Rattle.toml_working.specs.Heading.{header_lines}
+use Rattle.toml_working.specs.HeadingFollowed.{header_followed}
 use Rattle.toml_working.specs.HeaderStanding.{blank_standing}
 use Rattle.toml_working.specs.Inserting.{insert_in}
 use Rattle.toml_working.specs.Manners.{Manner}
@@ -25,16 +27,22 @@ use Rattle.toml_working.specs.Written.{HasLine, HasSection, HasValue}
 abbrev pub IsInNoValue : List Line → Address → Type 0
 IsInNoValue lines q = list_any (holds q) (standing lines) ≡ false
 
--- the lines after a plain edit; the manner is that of the text before all edits
+-- the header line of what is to stand at `p`, right below `q`, put in among lines
+abbrev pub header_put_in : Layout → Address → Brackets → Address → Manner → List Line → List Line
+header_put_in layouts.Plain q brackets p manner lines = header_lines q brackets p manner.newline lines
+header_put_in layouts.Follow q brackets p manner lines = header_followed q brackets p manner.newline manner.may_blank lines
+
+-- the lines after a plain edit; the newline and the layout are those of the text before all edits
 abbrev pub AreEdited : Profile → Change → Manner → List Line → List Line → Type 0
 AreEdited profile (set p text) manner old new = (v : Value) × IsValueIn profile v text × HasValue old p × (new ≡ set_lines p v old)
 AreEdited profile (insert p text) manner old new =
     (v : Value) × IsValueIn profile v text × (q : Address) × (name : List ℕ) × (p ≡ child q name) × HasSection old q × (new ≡ insert_in q name v manner old)
 AreEdited profile (rename p to) manner old new = new ≡ rename_lines p to old
 AreEdited profile (remove p) manner old new = HasLine old p × (new ≡ remove_lines p old)
-AreEdited profile (new_section p) manner old new = (q : Address) × (name : List ℕ) × (p ≡ child q name) × (manner.layout ≡ layouts.Plain)
-    × IsInNoValue old q × (new ≡ header_lines q One p manner.newline old)
-AreEdited profile _ manner old new = ⊥
+AreEdited profile (new_section p) manner old new =
+    (q : Address) × (name : List ℕ) × (p ≡ child q name) × IsInNoValue old q × (new ≡ header_put_in manner.layout q One p manner old)
+AreEdited profile (new_element p) manner old new =
+    (q : Address) × (i : ℕ) × (p ≡ element q i) × IsInNoValue old q × (new ≡ header_put_in manner.layout q Two p manner old)
 
 -- the text after it, the mark kept
 abbrev pub IsWritten : Profile → Change → Manner → List ℕ → List ℕ → Type 0

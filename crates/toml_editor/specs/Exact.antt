@@ -67,7 +67,7 @@ pub record Follows (profile : Profile) (read : Read) (c : Change) (old new : Tre
 -- so it does where the edit is plain
 abbrev pub MakesOne : Profile → Read → Change → Tree → Tree → Type 0
 MakesOne profile read c old new = (text : List ℕ) (kinds now : Kinds) → IsAt profile read old text kinds
-    → IsFault profile c kinds None → IsAfter profile c kinds now → IsPlainOn (manner old).layout profile text c
+    → IsFault profile c kinds None → IsAfter profile c kinds now → IsPlainOn profile text c
     → Follows profile read c old new text now
 
 -- the same of edits one after the other
@@ -135,7 +135,7 @@ WritesEdit profile read (new_element p) old new done = NoneIsGone old.elements
 -- the tree stands for no text on which the edit, without a fault, is plain, or held by an array or an inline table in a value
 abbrev pub IsNeitherOn : Profile → Read → Change → Tree → Type 0
 IsNeitherOn profile read c tree = (text : List ℕ) (kinds now : Kinds) → IsAt profile read tree text kinds
-    → IsFault profile c kinds None → IsAfter profile c kinds now → ¬ IsPlainOrHeld (manner tree).layout profile text c
+    → IsFault profile c kinds None → IsAfter profile c kinds now → ¬ IsPlainOrHeld profile text c
 
 -- it sets what is a table or an array
 abbrev pub SetsMany : Change → Kinds → Type 0
@@ -204,7 +204,7 @@ pub record DoneAll (profile : Profile) (read : Read) (near : Kinds) (cs : List C
 
 -- the edit with this number, where those before it are plain, is neither of these on the text that they write
 abbrev pub IsNeitherAt : Profile → Read → List Change → ℕ → Tree → Type 0
-IsNeitherAt profile read cs j tree = OfPlain profile read cs tree j (λ c text kinds. ¬ IsPlainOrHeld (manner tree).layout profile text c)
+IsNeitherAt profile read cs j tree = OfPlain profile read cs tree j (λ c text kinds. ¬ IsPlainOrHeld profile text c)
 
 -- this holds of the number of the edit that has the fault, if it is one of an edit
 abbrev pub OfNumber : (ℕ → Type 0) → EditorFault → Type 0

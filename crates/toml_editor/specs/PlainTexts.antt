@@ -29,9 +29,9 @@ IsNoPlainList layout profile before cs =
     OfTree before (λ d. (old now : Kinds) → IsDataOf (named d.lines) old → Lead profile cs old now
     → ¬ ArePlain profile cs (manner_of layout d.lines) before)
 
--- the edit is plain on the lines of the text, in a layout
-abbrev pub IsPlainOn : Layout → Profile → List ℕ → Change → Type 0
-IsPlainOn layout profile text c = (d : Doc) → SpellsIn profile d text → IsPlain layout d.lines c
+-- the edit is plain on the lines of the text
+abbrev pub IsPlainOn : Profile → List ℕ → Change → Type 0
+IsPlainOn profile text c = (d : Doc) → SpellsIn profile d text → IsPlain d.lines c
 
 -- it sets an address where no single value stands in the text, as where headers, dotted keys or lines of a table make what is there
 abbrev pub IsSpreadSet : Profile → List ℕ → Change → Type 0
@@ -57,9 +57,9 @@ HasContainerFor lines (remove p) = HasContainerAt lines p
 HasContainerFor lines _ = ⊥
 
 -- on the lines of the text the edit is plain, or an array or an inline table holds what it puts in or takes out
-abbrev pub IsPlainOrHeld : Layout → Profile → List ℕ → Change → Type 0
-IsPlainOrHeld layout profile text c = (d : Doc) → SpellsIn profile d text → IsPlain layout d.lines c ⊎ HasContainerFor d.lines c
+abbrev pub IsPlainOrHeld : Profile → List ℕ → Change → Type 0
+IsPlainOrHeld profile text c = (d : Doc) → SpellsIn profile d text → IsPlain d.lines c ⊎ HasContainerFor d.lines c
 
 -- the edit with this number, where those before it are plain, is neither of these on the text that they write
 abbrev pub IsNeitherPlainNorHeld : Layout → Profile → List ℕ → List Change → ℕ → Type 0
-IsNeitherPlainNorHeld layout profile before cs j = OfTree before (λ d. AfterPlain layout profile before cs d j (λ c text. ¬ IsPlainOrHeld layout profile text c))
+IsNeitherPlainNorHeld layout profile before cs j = OfTree before (λ d. AfterPlain layout profile before cs d j (λ c text. ¬ IsPlainOrHeld profile text c))

@@ -6,17 +6,15 @@ use Rattle.toml_tree.specs.Profiles.{SpellsIn}
 use Rattle.toml_tree.specs.Spells.{AreLines}
 use Rattle.toml_tree.specs.Tree.{Doc, Line}
 use Rattle.toml_tree.specs.declared.profile.Profile.{Profile}
-use Rattle.toml_names.specs.model.Addresses.{Address, child}
+use Rattle.toml_names.specs.model.Addresses.{Address, child, element}
 use Rattle.toml_names.specs.mentions.Mentions.{named}
 use Rattle.toml_names.specs.model.Data.{Kinds, IsDataOf}
 use Rattle.toml_names.specs.model.Documents.{IsDocumentIn}
 use Rattle.toml_names.specs.reader.Names.{AreGood}
 use Rattle.toml_edits.specs.After.{IsAfter}
-use Rattle.toml_edits.specs.Edits.{Change, set, insert, rename, remove, new_section}
+use Rattle.toml_edits.specs.Edits.{Change, set, insert, rename, remove, new_section, new_element}
 use Rattle.toml_edits.specs.Faults.{IsFault}
 use Rattle.toml_edits.specs.Lists.{Lead}
-use Rattle.toml_layout.specs.declared.layout.Layout.{Layout}
-use Rattle.toml_layout.specs.declared.layout.Layout.TheVariants as layouts
 use Rattle.toml_working.specs.Written.{HasLine, HasSection, HasValue, style_of}
 use Rattle.toml_editor.specs.EditedLines.{IsInNoValue, IsWritten, manner_after}
 use Rattle.toml_working.specs.Manners.{Manner}
@@ -33,20 +31,20 @@ abbrev pub GoodTextsAreDocuments : Type 0
 GoodTextsAreDocuments = (profile : Profile) (text : List ℕ) → IsText text
     → ((kinds : Kinds) × IsGoodText profile text kinds) ↔ IsDocumentIn profile text
 
--- the edit is plain on these lines in a layout: a `set` where a value stands, a `rename`, an `insert` of a name at the root or in a table that
--- has a header, a `remove` of a value of a line, and in layout `Plain` a `section` in a table that stands in no value
-abbrev pub IsPlain : Layout → List Line → Change → Type 0
-IsPlain layout lines (set p text) = HasValue lines p
-IsPlain layout lines (insert p text) = (q : Address) × (name : List ℕ) × (p ≡ child q name) × HasSection lines q
-IsPlain layout lines (rename p to) = Unit {0}
-IsPlain layout lines (remove p) = HasLine lines p
-IsPlain layout lines (new_section p) = (layout ≡ layouts.Plain) × (q : Address) × (name : List ℕ) × (p ≡ child q name) × IsInNoValue lines q
-IsPlain layout lines _ = ⊥
+-- the edit is plain on these lines: a `set` where a value stands, a `rename`, an `insert` of a name at the root or in a table that has a
+-- header, a `remove` of a value of a line, a `section` in a table that stands in no value, an `element` of an array that stands in none
+abbrev pub IsPlain : List Line → Change → Type 0
+IsPlain lines (set p text) = HasValue lines p
+IsPlain lines (insert p text) = (q : Address) × (name : List ℕ) × (p ≡ child q name) × HasSection lines q
+IsPlain lines (rename p to) = Unit {0}
+IsPlain lines (remove p) = HasLine lines p
+IsPlain lines (new_section p) = (q : Address) × (name : List ℕ) × (p ≡ child q name) × IsInNoValue lines q
+IsPlain lines (new_element p) = (q : Address) × (i : ℕ) × (p ≡ element q i) × IsInNoValue lines q
 
 -- Law: a plain edit that makes something of the data writes a text.
 abbrev pub PlainIsWritten : Type 0
 PlainIsWritten = (profile : Profile) (c : Change) (manner : Manner) (before : List ℕ) (old now : Kinds) (good : IsGoodText profile before old)
-    → IsAfter profile c old now → IsPlain manner.layout good.tree.lines c → (after : List ℕ) × IsWritten profile c manner before after
+    → IsAfter profile c old now → IsPlain good.tree.lines c → (after : List ℕ) × IsWritten profile c manner before after
 
 -- Law: what a plain edit without a fault writes of a good text is a good text, its data are what the edit makes of the data before, and
 -- the mark is kept.

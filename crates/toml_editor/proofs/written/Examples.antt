@@ -8,7 +8,7 @@
 --     [u.v]
 --
 -- whose last line has no newline. Others are `d = 1`, `e = 2`, an inline table over several lines, and one with CR LF and whitespace.
-use Rattle.std.proofs.Common.{◌≡◌, ℕ, Some, None, List, [], ◌∷◌, ◌++◌, refl}
+use Rattle.std.proofs.Common.{◌≡◌, ℕ, Some, None, List, [], ◌∷◌, ◌++◌, refl, true}
 use Rattle.toml_scalar.specs.Values.{name_of}
 use Rattle.toml_scalar.specs.declared.kind.ScalarKind.TheVariants as kinds
 use Rattle.toml_tree.specs.Bare.{fresh}

@@ -103,7 +103,7 @@ value_not_root p lines there none = let (table, name, member) = line_parts p lin
 
 -- a `remove` of the line of a value is made, and so is the text
 pub remove_follows : (profile : Profile) (read : Read) (old new : Tree) (p : Address) (text : List ℕ) (kinds now : Kinds) (at : IsAt profile read old text kinds)
-    → IsFault profile (remove p) kinds None → IsAfter profile (remove p) kinds now → IsPlain (manner old).layout at.good.tree.lines (remove p)
+    → IsFault profile (remove p) kinds None → IsAfter profile (remove p) kinds now → IsPlain at.good.tree.lines (remove p)
     → RemovesLines p read old new → Follows profile read (remove p) old new text now
 remove_follows profile read old new p text kinds now at none is_after there removes =
     let lines = at.good.tree.lines in

@@ -81,7 +81,7 @@ made_lines read old new p name (s ∷ q) v steps lines forms keeps stands named_
 
 pub insert_follows : (profile : Profile) (read : Read) (old new : Tree) (p : Address) (value text : List ℕ) (kinds now : Kinds)
     (at : IsAt profile read old text kinds) → IsFault profile (insert p value) kinds None → IsAfter profile (insert p value) kinds now
-    → IsPlain (manner old).layout at.good.tree.lines (insert p value) → KeepsRest old new → (v : Value) → IsValueIn profile v value → (steps : List (String Global)) → AreSteps p steps
+    → IsPlain at.good.tree.lines (insert p value) → KeepsRest old new → (v : Value) → IsValueIn profile v value → (steps : List (String Global)) → AreSteps p steps
     → InsertsLines p steps (value_outline v) (manner old) (text_of old.texts.source) read old.slots.items new.slots.items
     → ((q : Address) (last : Step) → p ≡ q ++ last ∷ [] → TreePutsBelow q p steps (value_outline v) read old new)
     → Follows profile read (insert p value) old new text now

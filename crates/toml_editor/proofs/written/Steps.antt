@@ -13,24 +13,23 @@ use Rattle.toml_names.specs.declared.model.address.Step.{Step}
 use Rattle.toml_names.specs.declared.model.address.Step.TheVariants.{Name, Index}
 use Rattle.toml_names.specs.mentions.Mentions.{Named, named}
 use Rattle.toml_names.specs.mentions.Rules.{KeepsRules, IsShort, max_steps}
-use Rattle.toml_names.specs.model.Addresses.{Address, child}
+use Rattle.toml_names.specs.model.Addresses.{Address, child, element}
 use Rattle.toml_names.specs.model.Data.{Kinds, IsDataOf, IsFact, fact_at}
 use Rattle.toml_names.specs.model.Places.{IsNamed}
 use Rattle.toml_names.specs.reader.Names.{AreGood}
-use Rattle.toml_names.proofs.Proved.{lines_have_data, places_are_not_named}
+use Rattle.toml_names.proofs.Proved.{lines_are_closed, lines_have_data, places_are_not_named}
 use Rattle.toml_edits.specs.After.{IsAfter}
 use Rattle.toml_edits.specs.Edits.{Change, set, insert, rename, remove, new_section, new_element}
 use Rattle.toml_edits.specs.Faults.{IsFault}
 use Rattle.toml_edits.specs.declared.fault.EditFault.TheVariants.{RootNamed, NotAName, AlreadyThere, AddressLength}
 use Rattle.toml_edits.proofs.Proved.{one_after}
-use Rattle.toml_layout.specs.declared.tree.Brackets.TheVariants.{One}
-use Rattle.toml_working.specs.Heading.{header_lines}
+use Rattle.toml_layout.specs.declared.tree.Brackets.TheVariants.{One, Two}
 use Rattle.toml_working.specs.Inserting.{insert_in}
 use Rattle.toml_working.specs.Removing.{remove_lines}
 use Rattle.toml_working.specs.Renaming.{rename_lines}
 use Rattle.toml_working.specs.Setting.{set_lines}
 use Rattle.toml_editor.specs.Steps.{IsGoodText, IsPlain, GoodTextsAreDocuments, PlainIsWritten, PlainStep, PlainSteps, AreWritten, OneWritten, OneListWritten}
-use Rattle.toml_editor.specs.EditedLines.{AreEdited, IsWritten, manner_after}
+use Rattle.toml_editor.specs.EditedLines.{AreEdited, IsWritten, header_put_in, manner_after}
 use Rattle.toml_editor.proofs.Mannered.{keeps_newline}
 use Rattle.toml_editor.proofs.written.Fitting.{all_fit, keeps_value, unnamed, last_step}
 use Rattle.toml_editor.proofs.written.InsertFormed.{insert_forms}
@@ -41,8 +40,12 @@ use Rattle.toml_editor.proofs.written.RemoveKept.{remove_forms}
 use Rattle.toml_editor.proofs.written.RemovedEither.{remove_data, remove_good}
 use Rattle.toml_editor.proofs.written.RenameFormed.{rename_forms}
 use Rattle.toml_editor.proofs.written.RenameKept.{rename_good, rename_data}
-use Rattle.toml_editor.proofs.written.SectionFacts.{section_goes, section_room}
-use Rattle.toml_editor.proofs.written.SectionFormed.{section_forms, section_of_profile}
+use Rattle.toml_editor.proofs.written.Counted.{same_last}
+use Rattle.toml_editor.proofs.written.ElementFacts.{element_room}
+use Rattle.toml_editor.proofs.written.ElementKept.{element_data, element_rules, element_short}
+use Rattle.toml_editor.proofs.written.HeaderGoes.{element_put, section_put}
+use Rattle.toml_editor.proofs.written.SectionFacts.{section_room}
+use Rattle.toml_editor.proofs.written.SectionFormed.{element_forms, element_of_profile, section_forms, section_of_profile}
 use Rattle.toml_editor.proofs.written.SectionKept.{section_data, section_rules, section_short}
 use Rattle.toml_editor.proofs.written.SetFormed.{set_forms}
 use Rattle.toml_editor.proofs.written.SetKept.{set_rules, set_short, set_data}
@@ -54,15 +57,16 @@ good_texts_are_documents profile text within = (
   (λ d. (fact_at (named d.1.lines), record { tree = d.1; spelled = (d.2, d.4); good = d.3; facts = lines_have_data d.1.lines d.3.0 })),
 )
 
-edited_lines : (profile : Profile) (c : Change) (manner : Manner) (lines : List Line) (old now : Kinds) → IsAfter profile c old now → IsPlain manner.layout lines c → (new : List Line) × AreEdited profile c manner lines new
+edited_lines : (profile : Profile) (c : Change) (manner : Manner) (lines : List Line) (old now : Kinds) → IsAfter profile c old now → IsPlain lines c → (new : List Line) × AreEdited profile c manner lines new
 edited_lines profile (set p text) manner lines old now after there = let v = after.1.value.tree in (set_lines p v lines, (v, after.1.value.is_value, there, refl))
 edited_lines profile (insert p text) manner lines old now after (q, name, at, there) =
     let v = after.1.value.tree in (insert_in q name v manner lines, (v, after.1.value.is_value, q, name, at, there, refl))
 edited_lines profile (rename p to) manner lines old now after plain = (rename_lines p to lines, refl)
 edited_lines profile (remove p) manner lines old now after there = (remove_lines p lines, (there, refl))
-edited_lines profile (new_section p) manner lines old now after (layout, q, name, at, outside) =
-    (header_lines q One p manner.newline lines, (q, name, at, layout, outside, refl))
-edited_lines profile (new_element p) manner lines old now after plain = absurd plain
+edited_lines profile (new_section p) manner lines old now after (q, name, at, outside) =
+    (header_put_in manner.layout q One p manner lines, (q, name, at, outside, refl))
+edited_lines profile (new_element p) manner lines old now after (q, i, at, outside) =
+    (header_put_in manner.layout q Two p manner lines, (q, i, at, outside, refl))
 
 pub plain_is_written : PlainIsWritten
 plain_is_written profile c manner before old now good after plain =
@@ -117,12 +121,12 @@ module _ (profile : Profile) (manner : Manner) (newline : IsNewline manner.newli
         good = remove_good p lines there good;
         after = λ kinds is'. remove_data profile p lines old kinds there good.0 is is';
       })
-  edited (new_section p) now new none after (q, name, at, layout, outside, made) =
+  edited (new_section p) now new none after (q, name, at, outside, made) =
       let room = section_room profile q name old (subst (λ x. IsFault profile (new_section x) old None) at none) in
-      let put = (section_goes q name manner.newline lines old forms good.0 is room outside).section in
-      let edited = header_lines q One (child q name) manner.newline lines in
+      let put = (section_put q name manner lines old forms good.0 is room outside).header in
+      let edited = header_put_in manner.layout q One (child q name) manner lines in
       subst (AreNew profile (new_section p) old) (sym made)
-      (subst (λ x. AreNew profile (new_section x) old (header_lines q One x manner.newline lines)) (sym at) (record {
+      (subst (λ x. AreNew profile (new_section x) old (header_put_in manner.layout q One x manner lines)) (sym at) (record {
         forms = section_forms q name manner.newline lines edited put forms newline;
         profiled = section_of_profile profile q name manner.newline lines edited put profiled;
         good = (
@@ -131,7 +135,17 @@ module _ (profile : Profile) (manner : Manner) (newline : IsNewline manner.newli
         );
         after = λ kinds is'. section_data profile q name manner.newline lines edited old kinds put good.0 is room.table room.free is';
       }))
-  edited (new_element p) now new none after made = absurd made
+  edited (new_element p) now new none after (q, i, at, outside, made) =
+      let room = element_room profile q i old (lines_are_closed lines old good.0 is) (subst (λ x. IsFault profile (new_element x) old None) at none) in
+      let put = (element_put q i manner lines old forms good.0 is room outside).header in
+      let edited = header_put_in manner.layout q Two (element q i) manner lines in
+      subst (AreNew profile (new_element p) old) (sym made)
+      (subst (λ x. AreNew profile (new_element x) old (header_put_in manner.layout q Two x manner lines)) (sym at) (record {
+        forms = element_forms q i manner.newline lines edited put forms newline;
+        profiled = element_of_profile profile q i manner.newline lines edited put profiled;
+        good = (element_rules q i manner.newline lines edited old put good.0 is room outside, element_short q i manner.newline lines edited put good.1 room);
+        after = λ kinds is'. element_data profile q i manner.newline lines edited old kinds put good.0 is room is';
+      }))
 
 -- two maps that are equal at each address are the data of the same
 same_data : (ms : List Named) (f g : Kinds) → IsDataOf ms f → ((a : Address) → f a ≡ g a) → IsDataOf ms g
@@ -190,9 +204,10 @@ one_edited profile (insert p text) manner old one two (v, value, q, m, at, there
     is ∙ ap₂ (λ x k. insert_in q k x manner old) (one_value v w 0 text value.0 value'.0) names ∙ ap (λ t. insert_in t n w manner old) tables ∙ sym is'
 one_edited profile (rename p to) manner old one two is is' = is ∙ sym is'
 one_edited profile (remove p) manner old one two (there, is) (there', is') = is ∙ sym is'
-one_edited profile (new_section p) manner old one two (q, m, at, layout, outside, is) (r, n, at', layout', outside', is') =
-    let (tables, names) = same_member q r m n (sym at ∙ at') in is ∙ ap (λ t. header_lines t One p manner.newline old) tables ∙ sym is'
-one_edited profile (new_element p) manner old one two is is' = absurd is
+one_edited profile (new_section p) manner old one two (q, m, at, outside, is) (r, n, at', outside', is') =
+    let (tables, names) = same_member q r m n (sym at ∙ at') in is ∙ ap (λ t. header_put_in manner.layout t One p manner old) tables ∙ sym is'
+one_edited profile (new_element p) manner old one two (q, i, at, outside, is) (r, j, at', outside', is') =
+    let arrays = (same_last q r (Index i) (Index j) (sym at ∙ at')).0 in is ∙ ap (λ t. header_put_in manner.layout t Two p manner old) arrays ∙ sym is'
 
 pub one_written : OneWritten
 one_written profile c manner before one two (d, spells, new, made, text) (e, spells', new', made', text') =

@@ -9,7 +9,7 @@ use Rattle.toml_tree.proofs.Proved.{one_tree, put_doc_spells, put_lines_same}
 use Rattle.toml_names.specs.declared.model.address.Step.{Step}
 use Rattle.toml_names.specs.declared.model.address.Step.TheVariants.{Name, Index}
 use Rattle.toml_names.specs.mentions.Mentions.{named, Kind}
-use Rattle.toml_names.specs.model.Addresses.{Address, child}
+use Rattle.toml_names.specs.model.Addresses.{Address, child, element}
 use Rattle.toml_names.specs.model.Data.{Kinds, IsDataOf, fact_at}
 use Rattle.toml_names.specs.model.Places.{IsNamed}
 use Rattle.toml_edits.specs.Edits.{Change, insert, rename, set, remove, new_section, new_element}
@@ -18,7 +18,7 @@ use Rattle.toml_units.specs.Units.{inside, TextUnit, units}
 use Rattle.toml_checker.specs.Comments.{AreCommentsIn, texts}
 use Rattle.toml_names.specs.mentions.Clear.{IsClear}
 use Rattle.toml_names.specs.mentions.Rules.{KeepsRules}
-use Rattle.toml_names.proofs.Proved.{lines_have_data, places_are_not_named}
+use Rattle.toml_names.proofs.Proved.{lines_are_closed, lines_have_data, places_are_not_named}
 use Rattle.toml_units.proofs.Proved.{units_are_named}
 use Rattle.toml_working.specs.Removing.{remove_lines}
 use Rattle.toml_editor.proofs.written.RemoveKept.{remove_forms}
@@ -37,16 +37,17 @@ use Rattle.toml_editor.proofs.written.InsertFormed.{insert_forms}
 use Rattle.toml_editor.proofs.written.RenameFormed.{rename_forms}
 use Rattle.toml_editor.proofs.written.WayComments.{comments}
 use Rattle.toml_working.specs.Setting.{set_lines}
-use Rattle.toml_layout.specs.declared.tree.Brackets.TheVariants.{One}
-use Rattle.toml_working.specs.Heading.{header_lines}
+use Rattle.toml_layout.specs.declared.tree.Brackets.TheVariants.{One, Two}
 use Rattle.toml_working.specs.Written.{HasLine, HasSection, HasValue}
-use Rattle.toml_editor.specs.EditedLines.{IsInNoValue, IsWritten}
-use Rattle.toml_editor.proofs.written.SectionFacts.{section_goes, section_room}
-use Rattle.toml_editor.proofs.written.SectionFormed.{section_forms}
+use Rattle.toml_editor.specs.EditedLines.{IsInNoValue, IsWritten, header_put_in}
+use Rattle.toml_editor.proofs.written.ElementFacts.{element_room}
+use Rattle.toml_editor.proofs.written.HeaderGoes.{element_put, section_put}
+use Rattle.toml_editor.proofs.written.SectionFacts.{section_room}
+use Rattle.toml_editor.proofs.written.SectionFormed.{element_forms, section_forms}
 use Rattle.toml_editor.proofs.written.SetKept.{set_short}
 use Rattle.toml_editor.proofs.written.SetFormed.{set_forms}
 use Rattle.toml_editor.proofs.written.WaySet.{set_way}
-use Rattle.toml_editor.proofs.written.WayHeaded.{section_way}
+use Rattle.toml_editor.proofs.written.WayHeaded.{element_way, section_way}
 use Rattle.toml_editor.proofs.written.WayPut.{insert_way}
 use Rattle.toml_editor.proofs.written.WayRenamed.{rename_way}
 use Rattle.toml_editor.proofs.written.WayWhole.{HasWay, partners, same_seen, same_newlines}
@@ -193,15 +194,15 @@ remove_goes p profile manner before after old now newline good none is_after (d,
     }
 
 section_ways : (p : Address) → HaveWays (new_section p)
-section_ways p profile manner before after old now newline good none is_after (d, spells, edited, (q, name, at, layout, outside, made), text) =
+section_ways p profile manner before after old now newline good none is_after (d, spells, edited, (q, name, at, outside, made), text) =
     let same : d ≡ good.tree = one_tree d good.tree before spells.0 good.spelled.0 in
     let lines = good.tree.lines in
     let forms = good.spelled.0.lines.forms in
     let room = section_room profile q name old (subst (λ x. IsFault profile (new_section x) old None) at none) in
-    let put = (section_goes q name manner.newline lines old forms good.good.0 good.facts room (subst (λ (x : Doc). IsInNoValue x.lines q) same outside)).section in
-    let edited' = header_lines q One (child q name) manner.newline lines in
+    let put = (section_put q name manner lines old forms good.good.0 good.facts room (subst (λ (x : Doc). IsInNoValue x.lines q) same outside)).header in
+    let edited' = header_put_in manner.layout q One (child q name) manner lines in
     let lines_are : edited ≡ edited' =
-    made ∙ ap (λ (x : Doc). header_lines q One p manner.newline x.lines) same ∙ ap (λ x. header_lines q One x manner.newline lines) at in
+    made ∙ ap (λ (x : Doc). header_put_in manner.layout q One p manner x.lines) same ∙ ap (λ x. header_put_in manner.layout q One x manner lines) at in
     record {
       comments_in = [];
       comments_are = refl;
@@ -213,13 +214,34 @@ section_ways p profile manner before after old now newline good none is_after (d
       way = subst (λ x. HasWay (new_section x ∷ []) ([] ∷ []) lines edited') (sym at) (section_way q name manner.newline lines edited' put forms);
     }
 
+element_ways : (p : Address) → HaveWays (new_element p)
+element_ways p profile manner before after old now newline good none is_after (d, spells, edited, (q, i, at, outside, made), text) =
+    let same : d ≡ good.tree = one_tree d good.tree before spells.0 good.spelled.0 in
+    let lines = good.tree.lines in
+    let forms = good.spelled.0.lines.forms in
+    let room = element_room profile q i old (lines_are_closed lines old good.good.0 good.facts) (subst (λ x. IsFault profile (new_element x) old None) at none) in
+    let put = (element_put q i manner lines old forms good.good.0 good.facts room (subst (λ (x : Doc). IsInNoValue x.lines q) same outside)).header in
+    let edited' = header_put_in manner.layout q Two (element q i) manner lines in
+    let lines_are : edited ≡ edited' =
+    made ∙ ap (λ (x : Doc). header_put_in manner.layout q Two p manner x.lines) same ∙ ap (λ x. header_put_in manner.layout q Two x manner lines) at in
+    record {
+      comments_in = [];
+      comments_are = refl;
+      edited = edited';
+      forms = element_forms q i manner.newline lines edited' put forms newline;
+      text =
+          text ∙ ap (λ (x : Doc). x.mark.text ++ joined (lines_parts edited)) same
+          ∙ ap (λ ls. good.tree.mark.text ++ joined (lines_parts ls)) lines_are;
+      way = subst (λ x. HasWay (new_element x ∷ []) ([] ∷ []) lines edited') (sym at) (element_way q i manner.newline lines edited' put forms);
+    }
+
 pub plain_goes : (c : Change) → HaveWays c
 plain_goes (set p value) = set_goes p value
 plain_goes (insert p value) = insert_goes p value
 plain_goes (rename p to) = rename_goes p to
 plain_goes (remove p) = remove_goes p
 plain_goes (new_section p) = section_ways p
-plain_goes (new_element p) = λ profile manner before after old now newline good none is_after written. absurd written.3
+plain_goes (new_element p) = element_ways p
 
 pub plain_is_carried : PlainIsCarried
 plain_is_carried c profile manner before after old now newline good none is_after written new =

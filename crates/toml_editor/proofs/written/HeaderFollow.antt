@@ -1,0 +1,151 @@
+-- The working tree after a plain section or element stands for the text that it writes.
+use Rattle.std.proofs.Common.{◌≡◌, inl, inr, ℕ, Bool, true, false, ◌&&◌, ◌||◌, None, Some, List, [], ◌∷◌, ◌++◌, map, refl, sym, ap, ap₂, ◌∙◌, subst, subst₂}
+use Rattle.std.specs.Prelude.{is_some, not, option_map, string_bytes}
+use Rattle.std.specs.declared.alloc.Global.{Global}
+use Rattle.std.specs.declared.string.String.{String}
+use Rattle.std.proofs.lemmas.Bool.{cond-false}
+use Rattle.toml_text.specs.Source.{text_of}
+use Rattle.toml_scalar.specs.Spelling.{spelled}
+use Rattle.toml_tree.specs.Tree.{Line}
+use Rattle.toml_tree.specs.declared.profile.Profile.{Profile}
+use Rattle.toml_names.specs.declared.model.address.Step.{Step}
+use Rattle.toml_names.specs.declared.model.address.Step.TheVariants.{Index, Name}
+use Rattle.toml_names.specs.mentions.Mentions.{named}
+use Rattle.toml_names.specs.model.Addresses.{Address, child, element}
+use Rattle.toml_names.specs.model.Data.{Kinds}
+use Rattle.toml_names.proofs.Proved.{lines_are_closed}
+use Rattle.toml_edits.specs.After.{IsAfter}
+use Rattle.toml_edits.specs.Edits.{new_element, new_section}
+use Rattle.toml_edits.specs.Faults.{IsFault}
+use Rattle.toml_layout.specs.OpenOutlines.{leaf_text}
+use Rattle.toml_layout.specs.Holders.{parent_of}
+use Rattle.toml_layout.specs.declared.texts.Texts.{Texts}
+use Rattle.toml_layout.specs.declared.tree.Brackets.{Brackets}
+use Rattle.toml_layout.specs.declared.tree.Brackets.TheVariants.{One, Two}
+use Rattle.toml_layout.specs.declared.tree.Leaf.{Leaf}
+use Rattle.toml_working.specs.declared.working.Tree.{Tree}
+use Rattle.toml_working.specs.AddingHeaders.{IsAsked}
+use Rattle.toml_working.specs.Following.{ArrayIsNotRoot, may_write_blank}
+use Rattle.toml_working.specs.FollowingHeaders.{ends_in_newline}
+use Rattle.toml_working.specs.HeaderStanding.{blank_laid_out, blank_standing, header_laid_out}
+use Rattle.toml_working.specs.Headers.{element_of, innermost}
+use Rattle.toml_working.specs.Manners.{Manner}
+use Rattle.toml_working.specs.Putting.{manner}
+use Rattle.toml_working.specs.PuttingHeaders.{AreSpellings}
+use Rattle.toml_working.specs.Standing.{Read, standing}
+use Rattle.toml_working.specs.Stands.{KeepsTexts, Stands}
+use Rattle.toml_working.specs.Starting.{NoneIsGone}
+use Rattle.toml_editor.specs.EditedLines.{IsInNoValue, header_put_in, manner_behind}
+use Rattle.toml_editor.specs.Exact.{Follows, IsAt, WritesHeader}
+use Rattle.toml_editor.specs.SpelledEdits.{AreSteps, step_spelled}
+use Rattle.toml_editor.specs.Steps.{IsPlain}
+use Rattle.toml_editor.proofs.written.ElementFacts.{element_room}
+use Rattle.toml_editor.proofs.written.Follow.{follows}
+use Rattle.toml_editor.proofs.written.HeaderGoes.{element_put, section_put}
+use Rattle.toml_editor.proofs.written.InTurn.{header_is_taken}
+use Rattle.toml_editor.proofs.written.SectionFacts.{section_room}
+use Rattle.toml_editor.proofs.written.StandingOrder.{rules_order}
+use Rattle.toml_editor.proofs.written.TablesStay.{parent_is}
+
+-- a name is no element
+name_is_no_element : (q : Address) (name : List ℕ) → element_of (child q name) ≡ None
+name_is_no_element [] name = refl
+name_is_no_element (s ∷ []) name = refl
+name_is_no_element (s ∷ t ∷ q) name = ap (option_map (λ e. (s ∷ e.0, e.1))) (name_is_no_element (t ∷ q) name)
+
+-- the steps that are spelled are the spellings of names
+are_spellings : (p : Address) (texts : List (List ℕ)) → texts ≡ map step_spelled p → AreSpellings p texts
+are_spellings [] texts is = tt
+are_spellings (s ∷ p) [] is = cc
+are_spellings (Name n ∷ p) (text ∷ texts) is =
+    let first : text ≡ spelled n = cc in
+    let rest : texts ≡ map step_spelled p = cc in
+    (first, are_spellings p texts rest)
+are_spellings (Index i ∷ p) (text ∷ texts) is = let rest : texts ≡ map step_spelled p = cc in are_spellings p texts rest
+
+-- a blank line may be written if none was before, and none is now
+still_may : (had now ends : Bool) → (not (had || now) && ends) ≡ ((not had && ends) && not now)
+still_may true true true = refl
+still_may true true false = refl
+still_may true false true = refl
+still_may true false false = refl
+still_may false true true = refl
+still_may false true false = refl
+still_may false false true = refl
+still_may false false false = refl
+
+module _ (profile : Profile) (read : Read) (old new : Tree) (brackets : Brackets) (p q : Address) (last : Step) (text : List ℕ) (kinds : Kinds)
+    (at : IsAt profile read old text kinds) (own : p ≡ q ++ last ∷ []) (outside : IsInNoValue at.good.tree.lines q) (array : ArrayIsNotRoot q p) (rest : KeepsTexts old new)
+    (steps : List (String Global)) (spells : AreSteps p steps) (done : Bool) (puts : WritesHeader brackets read p steps old new done) where
+  abbrev lines : List Line
+  lines = at.good.tree.lines
+
+  -- what then is written by
+  header_manner : new.has_written_blank ≡ (old.has_written_blank || blank_standing q p brackets (manner old) (may_write_blank old) (standing lines))
+      → manner new ≡ manner_behind brackets p (manner old) lines
+  header_manner blank =
+      ap₂ (λ (t : Texts) (s : Leaf). made t s (not new.has_written_blank && ends_in_newline (text_of t.source))) rest.texts rest.style
+      ∙ ap (λ b. made old.texts old.style (not b && ends_in_newline (text_of old.texts.source))) blank
+      ∙ ap (made old.texts old.style) (still_may old.has_written_blank (written q) (ends_in_newline (text_of old.texts.source)))
+      ∙ ap (λ r. made old.texts old.style (may_write_blank old && not (written r))) (sym (parent_is q last) ∙ ap parent_of (sym own))
+    where
+      made : Texts → Leaf → Bool → Manner
+      made t s b = record { newline = leaf_text s; layout = t.layout; may_blank = b }
+
+      written : Address → Bool
+      written r = blank_standing r p brackets (manner old) (may_write_blank old) (standing lines)
+
+  -- it is made, and the tree then stands for the lines with it
+  header_made : (put : List Line) → standing put ≡ header_laid_out (manner old).layout q p brackets (manner old) (may_write_blank old) (standing lines)
+      → (done ≡ true) × Stands (text_of new.texts.source) read new.slots.items (standing put) × (manner new ≡ manner_behind brackets p (manner old) lines)
+  header_made put laid =
+      let rules = at.good.good.0 in
+      let asked : IsAsked q p (innermost q) steps = record { right = (last, own); inner = refl; array = array; spells = are_spellings p (map string_bytes steps) spells } in
+      let (stands, told, blank) = puts q last own asked (standing lines) at.stands (rules_order lines rules)
+      (header_is_taken (manner old).layout q lines at.good.spelled.0.lines.forms rules) in (
+        told ∙ ap not outside,
+        subst₂ (λ (s : Texts) ls. Stands (text_of s.source) read new.slots.items ls) (sym rest.texts) (cond-false _ _ _ outside ∙ sym laid) stands,
+        header_manner blank,
+      )
+
+-- a section is made, and so is the text
+pub section_follows : (profile : Profile) (read : Read) (old new : Tree) (p : Address) (text : List ℕ) (kinds now : Kinds) (at : IsAt profile read old text kinds)
+    → IsFault profile (new_section p) kinds None → IsAfter profile (new_section p) kinds now → IsPlain at.good.tree.lines (new_section p)
+    → KeepsTexts old new → (steps : List (String Global)) → AreSteps p steps → (done : Bool) → WritesHeader One read p steps old new done
+    → (done ≡ true) × Follows profile read (new_section p) old new text now
+section_follows profile read old new p text kinds now at none is_after (q, name, own, outside) rest steps spells done puts =
+    let lines = at.good.tree.lines in
+    let room = section_room profile q name kinds (subst (λ x. IsFault profile (new_section x) kinds None) own none) in
+    let array : ArrayIsNotRoot q p = subst (ArrayIsNotRoot q) (sym own) (λ some root. (let x = name_is_no_element q name in cc)) in
+    let put = header_put_in (manner old).layout q One p (manner old) lines in
+    let goes = section_put q name (manner old) lines kinds at.good.spelled.0.lines.forms at.good.good.0 at.good.facts room outside in
+    let (is_done, stands, mannered) = header_made profile read old new One p q (Name name) text kinds at own outside array rest steps spells done puts put
+    (subst (λ x. standing (header_put_in (manner old).layout q One x (manner old) lines) ≡ header_laid_out (manner old).layout q x One (manner old) (may_write_blank old) (standing lines))
+    (sym own) goes.stands) in (
+      is_done,
+      follows profile read (new_section p) old new text kinds now put at.newline at.good none is_after (q, name, own, outside, refl) stands
+          (subst NoneIsGone (sym rest.elements) at.whole) rest.texts mannered,
+    )
+
+-- and so is an element
+pub element_follows : (profile : Profile) (read : Read) (old new : Tree) (p : Address) (text : List ℕ) (kinds now : Kinds) (at : IsAt profile read old text kinds)
+    → IsFault profile (new_element p) kinds None → IsAfter profile (new_element p) kinds now → IsPlain at.good.tree.lines (new_element p)
+    → KeepsTexts old new → (steps : List (String Global)) → AreSteps p steps → (done : Bool) → WritesHeader Two read p steps old new done
+    → (done ≡ true) × Follows profile read (new_element p) old new text now
+element_follows profile read old new p text kinds now at none is_after (q, i, own, outside) rest steps spells done puts =
+    let lines = at.good.tree.lines in
+    let room = element_room profile q i kinds (lines_are_closed lines kinds at.good.good.0 at.good.facts) (subst (λ x. IsFault profile (new_element x) kinds None) own none) in
+    let array : ArrayIsNotRoot q p = (λ some root. no_child room.table.0 room.table.1 (sym root ∙ room.table.2)) in
+    let put = header_put_in (manner old).layout q Two p (manner old) lines in
+    let goes = element_put q i (manner old) lines kinds at.good.spelled.0.lines.forms at.good.good.0 at.good.facts room outside in
+    let (is_done, stands, mannered) = header_made profile read old new Two p q (Index i) text kinds at own outside array rest steps spells done puts put
+    (subst (λ x. standing (header_put_in (manner old).layout q Two x (manner old) lines) ≡ header_laid_out (manner old).layout q x Two (manner old) (may_write_blank old) (standing lines))
+    (sym own) goes.stands) in (
+      is_done,
+      follows profile read (new_element p) old new text kinds now put at.newline at.good none is_after (q, i, own, outside, refl) stands
+          (subst NoneIsGone (sym rest.elements) at.whole) rest.texts mannered,
+    )
+  where
+    no_child : (r : Address) (n : List ℕ) → ¬ ([] ≡ child r n)
+    no_child [] n h = cc
+    no_child (t ∷ r) n h = cc
