@@ -42,10 +42,10 @@ use Rattle.toml_editor.proofs.written.RenameFormed.{rename_forms}
 use Rattle.toml_editor.proofs.written.RenameKept.{rename_good, rename_data}
 use Rattle.toml_editor.proofs.written.Counted.{same_last}
 use Rattle.toml_editor.proofs.written.ElementFacts.{element_room}
-use Rattle.toml_editor.proofs.written.ElementKept.{element_data, element_rules, element_short}
+use Rattle.toml_editor.proofs.written.ElementKept.{element_data, element_forms, element_of_profile, element_rules, element_short}
 use Rattle.toml_editor.proofs.written.HeaderGoes.{element_put, section_put}
 use Rattle.toml_editor.proofs.written.SectionFacts.{section_room}
-use Rattle.toml_editor.proofs.written.SectionFormed.{element_forms, element_of_profile, section_forms, section_of_profile}
+use Rattle.toml_editor.proofs.written.SectionFormed.{section_forms, section_of_profile}
 use Rattle.toml_editor.proofs.written.SectionKept.{section_data, section_rules, section_short}
 use Rattle.toml_editor.proofs.written.SetFormed.{set_forms}
 use Rattle.toml_editor.proofs.written.SetKept.{set_rules, set_short, set_data}
@@ -143,7 +143,7 @@ module _ (profile : Profile) (manner : Manner) (newline : IsNewline manner.newli
       (subst (λ x. AreNew profile (new_element x) old (header_put_in manner.layout q Two x manner lines)) (sym at) (record {
         forms = element_forms q i manner.newline lines edited put forms newline;
         profiled = element_of_profile profile q i manner.newline lines edited put profiled;
-        good = (element_rules q i manner.newline lines edited old put good.0 is room outside, element_short q i manner.newline lines edited put good.1 room);
+        good = (element_rules q i manner.newline lines edited old put good.0 is room outside, element_short q i manner.newline lines edited put good.1 room.short);
         after = λ kinds is'. element_data profile q i manner.newline lines edited old kinds put good.0 is room is';
       }))
 

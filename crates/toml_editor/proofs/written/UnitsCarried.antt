@@ -41,9 +41,10 @@ use Rattle.toml_layout.specs.declared.tree.Brackets.TheVariants.{One, Two}
 use Rattle.toml_working.specs.Written.{HasLine, HasSection, HasValue}
 use Rattle.toml_editor.specs.EditedLines.{IsInNoValue, IsWritten, header_put_in}
 use Rattle.toml_editor.proofs.written.ElementFacts.{element_room}
+use Rattle.toml_editor.proofs.written.ElementKept.{element_forms}
 use Rattle.toml_editor.proofs.written.HeaderGoes.{element_put, section_put}
 use Rattle.toml_editor.proofs.written.SectionFacts.{section_room}
-use Rattle.toml_editor.proofs.written.SectionFormed.{element_forms, section_forms}
+use Rattle.toml_editor.proofs.written.SectionFormed.{section_forms}
 use Rattle.toml_editor.proofs.written.SetKept.{set_short}
 use Rattle.toml_editor.proofs.written.SetFormed.{set_forms}
 use Rattle.toml_editor.proofs.written.WaySet.{set_way}
