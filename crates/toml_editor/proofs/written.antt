@@ -11,6 +11,7 @@ pub mod Clear
 pub mod Closed
 pub mod Counted
 pub mod CountedAlike
+pub mod CountedApart
 pub mod CountedArrays
 pub mod Deep
 pub mod DocumentSections
@@ -29,6 +30,7 @@ pub mod Exchanged
 pub mod Fitting
 pub mod Follow
 pub mod Formed
+pub mod HeaderKept
 pub mod HeaderLeads
 pub mod HeaderPlace
 pub mod HeaderPut
@@ -78,7 +80,6 @@ pub mod SectionFormed
 pub mod SectionKept
 pub mod SectionNamed
 pub mod SectionRoles
-pub mod SectionTables
 pub mod SetFormed
 pub mod SetKept
 pub mod SetNamed
