@@ -16,6 +16,8 @@ pub mod CountedArrays
 pub mod Deep
 pub mod DocumentSections
 pub mod ElementHeaded
+pub mod ElementKept
+pub mod ElementNamed
 pub mod Elsewhere
 pub mod EmptiedLine
 pub mod EmptyAlone
