@@ -11,7 +11,6 @@ pub mod Clear
 pub mod Closed
 pub mod Counted
 pub mod CountedAlike
-pub mod CountedApart
 pub mod CountedArrays
 pub mod Deep
 pub mod DocumentSections
@@ -32,6 +31,7 @@ pub mod Exchanged
 pub mod Fitting
 pub mod Follow
 pub mod Formed
+pub mod HeaderCounted
 pub mod HeaderKept
 pub mod HeaderLeads
 pub mod HeaderPlace

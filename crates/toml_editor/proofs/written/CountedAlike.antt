@@ -8,7 +8,7 @@ use Rattle.toml_tree.specs.Tree.{Piece, Expr, BlankLine, KeyValLine, TableLine, 
 use Rattle.toml_names.specs.declared.mentions.mention.Role.TheVariants.{Element, Passed, Tables}
 use Rattle.toml_names.specs.declared.model.address.Step.TheVariants.{Index}
 use Rattle.toml_names.specs.mentions.Keys.{Key, key_names, part_name, rest_names}
-use Rattle.toml_names.specs.mentions.Mentions.{Named, an_array, count_tables, ends_table, ends_tables, entered, followed, named_by, section, section_from, table_at}
+use Rattle.toml_names.specs.mentions.Mentions.{Named, an_array, count_tables, ends_table, ends_tables, entered, followed, named_by, pair_named, section, section_from, table_at}
 use Rattle.toml_names.specs.mentions.OwnAddresses.{IsHeaderLine}
 use Rattle.toml_names.specs.model.Addresses.{Address, below, child, element}
 use Rattle.toml_names.specs.reader.Names.{header_end, own_address}
@@ -125,11 +125,12 @@ abbrev pub IsSameSection : List Named → List Named → List Line → Type 0
 IsSameSection xs ys ls = (section xs ≡ section ys) ⊎ (has_pair ls ≡ false)
 
 -- what a line has that stands alike behind both, and the lines behind it
-record IsAlike (xs ys : List Named) (n m : ℕ) (e : Expr) (ls : List Line) : Type 0 where
-  own : own_address xs e ≡ own_address ys e
-  base : line_base xs e ≡ line_base ys e
-  sections : IsSameSection (xs ++ named_by xs n e) (ys ++ named_by ys m e) ls
-  counts : (at : Address) → count_tables xs at ≡ count_tables ys at → count_tables (xs ++ named_by xs n e) at ≡ count_tables (ys ++ named_by ys m e) at
+pub record IsAlike (xs ys : List Named) (n m : ℕ) (e : Expr) (ls : List Line) : Type 0 where
+  pub names : named_by xs n e ≡ named_by ys n e
+  pub own : own_address xs e ≡ own_address ys e
+  pub base : line_base xs e ≡ line_base ys e
+  pub sections : IsSameSection (xs ++ named_by xs n e) (ys ++ named_by ys m e) ls
+  pub counts : (at : Address) → count_tables xs at ≡ count_tables ys at → count_tables (xs ++ named_by xs n e) at ≡ count_tables (ys ++ named_by ys m e) at
 
 module _ (xs ys : List Named) (n m : ℕ) (ls : List Line) where
   header_alike : (e : Expr) → IsHeaderLine e → line_base xs e ≡ line_base ys e → AreCountedBut (IsUnseen (own_address xs e)) xs ys → IsAlike xs ys n m e ls
@@ -138,6 +139,7 @@ module _ (xs ys : List Named) (n m : ℕ) (ls : List Line) where
       let names = header_named xs ys n e is same in
       let numbers = step_alike ys ys n m e (alike_self ys) in
       record {
+        names = names;
         own = header_owned xs ys e is same;
         base = base;
         sections = inl (
@@ -148,9 +150,10 @@ module _ (xs ys : List Named) (n m : ℕ) (ls : List Line) where
             ∙ numbers.counts at;
       }
 
-  line_alike : (e : Expr) (newline : Piece) → IsSameSection xs ys (record { expr = e; newline = newline } ∷ ls) → AreCountedBut (IsUnseen (own_address xs e)) xs ys
+  pub line_alike : (e : Expr) (newline : Piece) → IsSameSection xs ys (record { expr = e; newline = newline } ∷ ls) → AreCountedBut (IsUnseen (own_address xs e)) xs ys
       → IsAlike xs ys n m e ls
   line_alike (BlankLine b) newline sections same = record {
+    names = refl;
     own = refl;
     base = refl;
     sections = elim sections [ inl one ↦ inl (ap section (append-nil xs) ∙ one ∙ ap section (sym (append-nil ys))) | inr none ↦ inr none ];
@@ -158,6 +161,7 @@ module _ (xs ys : List Named) (n m : ℕ) (ls : List Line) where
   }
   line_alike (KeyValLine ws pair tail) newline (inr none) same = absurd (true≢false none)
   line_alike (KeyValLine ws pair tail) newline (inl one) same = record {
+    names = ap (λ s. pair_named n s pair.assign pair.value) one;
     own = ap (λ s. Some (below s (key_names pair.assign.key))) one;
     base = ap (λ (s : Address). Some (length s)) one;
     sections = inl (section_pair xs n (section xs) pair.assign pair.value ∙ one ∙ sym (section_pair ys m (section ys) pair.assign pair.value));

@@ -20,11 +20,11 @@ use Rattle.toml_editor.proofs.Each.{each_append, each_front, each_back, each_wea
 use Rattle.toml_editor.proofs.written.BlockFacts.{each_put, has_old, has_block, has_new}
 use Rattle.toml_editor.proofs.written.Clear.{above_apart}
 use Rattle.toml_editor.proofs.written.Counted.{same_last}
-use Rattle.toml_editor.proofs.written.CountedApart.{Enters, end_under, enters}
 use Rattle.toml_editor.proofs.written.CountedArrays.{followed_has}
+use Rattle.toml_editor.proofs.written.HeaderCounted.{Enters, enters}
 use Rattle.toml_editor.proofs.written.Pairwise.{PairsAre, Goes, Has, any_of_has, all_of_pairs, from_has, has_of_any, has_weaker, members_self, pairs_append, pairs_back, pairs_between, pairs_front, pairs_of_all}
 use Rattle.toml_editor.proofs.written.Plain.{behind, plain_alike}
-use Rattle.toml_editor.proofs.written.SectionNamed.{HasNames, IsPutThere}
+use Rattle.toml_editor.proofs.written.SectionNamed.{HasNames, IsPutThere, end_under}
 use Rattle.toml_editor.proofs.written.SectionRoles.{HasKind, IsLater, IsNotOver, RoleHas, all_later, kinds_are, none_over}
 use Rattle.toml_editor.proofs.written.Unplain.{each_plain, has_plain, plain_has, plain_short, rules_plain, short_plain}
 

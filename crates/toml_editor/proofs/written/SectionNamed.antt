@@ -1,9 +1,8 @@
 -- What is named after a new header line, and after a new section.
-use Rattle.std.proofs.Common.{◌≡◌, inl, inr, ℕ, List, [], ◌∷◌, ◌++◌, Some, refl, sym, ap, ap₂, ◌∙◌, subst, append_assoc, append-nil}
+use Rattle.std.proofs.Common.{◌≡◌, inl, inr, ℕ, List, [], ◌∷◌, ◌++◌, Some, refl, sym, ap, ◌∙◌, append_assoc, append-nil}
 use Rattle.std.proofs.lemmas.List.{append_cancel_left}
 use Rattle.std.proofs.lemmas.Option.{same_Some}
 use Rattle.toml_tree.specs.Bare.{fresh}
-use Rattle.toml_tree.specs.Spells.{EachIs}
 use Rattle.toml_tree.specs.Tree.{Line}
 use Rattle.toml_names.specs.declared.model.address.Step.TheVariants.{Name, Index}
 use Rattle.toml_names.specs.declared.mentions.mention.Role.TheVariants.{Passed}
@@ -18,13 +17,11 @@ use Rattle.toml_working.specs.Heading.{header_expr, header_line, key_named}
 use Rattle.toml_working.specs.Headers.{names_of}
 use Rattle.toml_working.specs.Removing.{empty_line}
 use Rattle.toml_editor.specs.Blocks.{IsPut, named_plain, passed_from, section_block}
-use Rattle.toml_editor.proofs.written.Alike.{alike_self}
-use Rattle.toml_editor.proofs.written.CountedApart.{AreCountedBut, Enters, Grows, IsLineApart, back_apart, behind_apart, end_under, enters, header_counted}
+use Rattle.toml_editor.proofs.written.EmptyAlone.{first_under}
+use Rattle.toml_editor.proofs.written.HeaderCounted.{Enters, enters, same_behind}
 use Rattle.toml_editor.proofs.written.HeaderLeads.{key_again}
 use Rattle.toml_editor.proofs.written.HeaderPut.{IsHeaderPut, IsPutBefore, IsSectionPut, ended}
 use Rattle.toml_editor.proofs.written.Plain.{behind, plain_alike, plain_is}
-use Rattle.toml_editor.proofs.written.PutStands.{stand_alike}
-use Rattle.toml_editor.proofs.written.UnitsAlike.{own_alike}
 
 -- ---- the key
 
@@ -54,7 +51,11 @@ header_names_some Two p ws xs leads =
 
 -- ---- what a key passes
 
--- a key leads to no index first
+-- a key leads to what begins with its first name
+pub end_under : (xs : List Named) (ns : Key) (at : Address) (n : List ℕ) → (r : Address) × (header_end xs at (n ∷ ns) ≡ at ++ Name n ∷ r)
+end_under xs ns at n = let (r, is) = first_under xs ns n at in (r, is ∙ append_assoc at (Name n ∷ []) r)
+
+-- and so to no index first
 no_index : (xs : List Named) (key : Key) (at : Address) (i : ℕ) (rest : Address) → header_end xs at key ≡ at ++ Index i ∷ rest → ⊥
 no_index xs [] at i rest is =
     let e : ◌≡◌ {A = Address} [] (Index i ∷ rest) = append_cancel_left at [] (Index i ∷ rest) (append-nil at ∙ is) in cc
@@ -183,19 +184,14 @@ module _ (brackets : Brackets) (p : Address) (style : List ℕ) (old new : List 
   There = IsPutThere put_block front put.back old new
 
   -- behind it the same is named
-  same_behind : behind (xs ++ put_block) put.back ≡ behind xs put.back
-  same_behind =
-      sym (behind_apart (Grows brackets p) put.back xs (xs ++ put_block) 0 (λ at other. sym (header_counted brackets p put.ws xs 0 leads at other)) (inr put.unkeyed)
-      (subst (EachIs (IsLineApart (Grows brackets p))) (stand_alike put.back (named front) xs _ 0 (plain_alike (named front))) (back_apart brackets p front put.back put.apart)))
-    where
-      leads : own_address xs (header_expr brackets p put.ws) ≡ Some p
-      leads = sym (own_alike (named front) xs (plain_alike (named front)) (header_expr brackets p put.ws)) ∙ put.leads
+  same : behind (xs ++ put_block) put.back ≡ behind xs put.back
+  same = same_behind brackets p style old new put
 
   put_before : IsPutBefore brackets p style put.ws front put.back old new → There
   put_before at = record {
     was = ap named_plain at.was ∙ plain_parts front put.back;
     is =
-        ap named_plain at.is ∙ plain_parts front (line style ∷ put.back) ∙ ap (λ r. xs ++ (put_block ++ r)) same_behind;
+        ap named_plain at.is ∙ plain_parts front (line style ∷ put.back) ∙ ap (λ r. xs ++ (put_block ++ r)) same;
   }
 
   -- behind the last line, which gets a newline, and before lines that name nothing
