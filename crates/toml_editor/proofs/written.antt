@@ -14,14 +14,16 @@ pub mod CountedAlike
 pub mod CountedArrays
 pub mod Deep
 pub mod DocumentSections
+pub mod ElementFacts
 pub mod ElementHeaded
+pub mod ElementKept
+pub mod ElementNamed
 pub mod Elsewhere
 pub mod EmptiedLine
 pub mod EmptyAlone
 pub mod EmptyKept
 pub mod EmptyLines
 pub mod EmptyNamed
-pub mod ElementFacts
 pub mod EmptyStands
 pub mod Examples
 pub mod ExamplesBelow
@@ -30,8 +32,10 @@ pub mod Exchanged
 pub mod Fitting
 pub mod Follow
 pub mod Formed
+pub mod HeaderCounted
 pub mod HeaderFollow
 pub mod HeaderGoes
+pub mod HeaderKept
 pub mod HeaderLeads
 pub mod HeaderPlace
 pub mod HeaderPut
@@ -80,7 +84,6 @@ pub mod SectionFormed
 pub mod SectionKept
 pub mod SectionNamed
 pub mod SectionRoles
-pub mod SectionTables
 pub mod SetFormed
 pub mod SetKept
 pub mod SetNamed
