@@ -10,6 +10,7 @@ pub mod Certify
 pub mod Clear
 pub mod Closed
 pub mod Counted
+pub mod CountedApart
 pub mod CountedAlike
 pub mod CountedArrays
 pub mod Deep
@@ -34,6 +35,7 @@ pub mod HeaderPlace
 pub mod HeaderPut
 pub mod HeaderSplit
 pub mod HeaderStood
+pub mod HeaderThere
 pub mod HeadersAlone
 pub mod HeadersRenamed
 pub mod InTurn

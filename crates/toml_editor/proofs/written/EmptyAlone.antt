@@ -44,11 +44,11 @@ each_both : {A : Type 0} (P Q : A → Type 0) (xs : List A) → EachIs P xs → 
 each_both P Q [] h k = tt
 each_both P Q (x ∷ xs) h k = ((h.0, k.0), each_both P Q xs h.1 k.1)
 
-under_trans : (a b c : Address) → IsUnder a b → IsUnder b c → IsUnder a c
+pub under_trans : (a b c : Address) → IsUnder a b → IsUnder b c → IsUnder a c
 under_trans a b c (r, is) (t, at) = (r ++ t, at ∙ ap (λ x. x ++ t) is ∙ append_assoc a r t)
 
 -- what a header passes lies above where its key ends
-end_under : (xs : List Named) (key : Key) (at : Address) → IsUnder at (header_end xs at key)
+pub end_under : (xs : List Named) (key : Key) (at : Address) → IsUnder at (header_end xs at key)
 end_under xs [] at = ([], sym (append-nil at))
 end_under xs (n ∷ []) at = (Name n ∷ [], refl)
 end_under xs (n ∷ m ∷ more) at =
