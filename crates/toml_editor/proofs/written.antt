@@ -29,6 +29,8 @@ pub mod ExamplesHeaded
 pub mod Exchanged
 pub mod Fitting
 pub mod Follow
+pub mod FollowedPlace
+pub mod FollowedSplit
 pub mod Formed
 pub mod HeaderLeads
 pub mod HeaderPlace

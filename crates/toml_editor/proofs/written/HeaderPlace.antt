@@ -15,10 +15,10 @@ use Rattle.toml_working.specs.Inserting.{has_pair}
 use Rattle.toml_working.specs.Placing.{is_header}
 use Rattle.toml_working.specs.Seeing.{heads_below}
 use Rattle.toml_working.specs.Standing.{Standing, line_stands, standing}
-use Rattle.toml_editor.proofs.written.Counted.{AreLast, counts_stay, own_counts}
+use Rattle.toml_editor.proofs.written.Counted.{AreLast}
 use Rattle.toml_editor.proofs.written.HeaderPut.{IsApart}
 use Rattle.toml_editor.proofs.written.HeaderSplit.{LastBelow, NextHeader, lines_of, next_header}
-use Rattle.toml_editor.proofs.written.HeaderStood.{front_headless, index_in, parts, shown_lines, shown_stands}
+use Rattle.toml_editor.proofs.written.HeaderStood.{counted_behind, index_in, parts, shown_lines, shown_stands}
 use Rattle.toml_editor.proofs.written.HeaderThere.{IsPutThere, end_put, put_as, put_before}
 use Rattle.toml_editor.proofs.written.StandingOrder.{begins_is}
 
@@ -68,18 +68,11 @@ module _ (brackets : Brackets) (p way : Address) (style : List ℕ) (lines : Lis
       let same : f ≡ e = (let x : ◌≡◌ {A = Option Address} (Some f) (Some e) = sym inner' ∙ ap innermost (sym is) ∙ inner in cc) in
       let whole : shown lines ≡ last.before ++ last.line ∷ (last.between ++ back) =
       was ∙ ap (λ x. x ++ back) last.is ∙ append_assoc last.before (last.line ∷ last.between) back in
-      let all = parts last.before (last.line ∷ (last.between ++ back)) lines [] whole in
-      let b = lines_of last.before in
-      let here : line_stands (named b) last.line.0 ≡ last.line.1 = (let x = all.back_stands in cc) in
       let (a, own, rest', below) = below_is e last.line.1.base last.line.1.address last.below in
-      let owned : own_address (named b) last.line.0.expr ≡ Some a = ap (λ (x : Standing). x.address) here ∙ own in
       let at : a ≡ r ++ Index i ∷ (more ++ rest') =
       below ∙ ap (λ x. x ++ rest') (sym same ∙ split) ∙ append_assoc r (Index i ∷ more) rest' in
-      let rest_shown : shown lines ≡ (last.before ++ last.line ∷ []) ++ (last.between ++ back) =
-      whole ∙ sym (append_assoc last.before (last.line ∷ []) (last.between ++ back)) in
-      ap (λ ls. count_tables (named ls) r) (ap lines_of last.is ∙ map-append (λ (x : Shown). x.0) last.before (last.line ∷ last.between) ∙ sym (append_assoc b (last.line.0 ∷ []) (lines_of last.between)))
-      ∙ counts_stay (b ++ last.line.0 ∷ []) (lines_of last.between) r (front_headless last.between back _ _ (parts (last.before ++ last.line ∷ []) (last.between ++ back) lines [] rest_shown).back_stands last.headless)
-      ∙ own_counts b last.line.0 a r (more ++ rest') i owned at
+      ap (λ xs. count_tables (named (lines_of xs)) r) last.is
+      ∙ counted_behind lines last.before last.line last.between back whole last.headless a r (more ++ rest') i own at
 
   -- its key leads to the address from where the arrays of tables on the way are so reached; one of the element is at the innermost one or below
   -- it; and for an element it is apart from the lines behind

@@ -1,5 +1,6 @@
 -- The lines with a new header line: where it stands, and what then stands on the lines.
 use Rattle.std.proofs.Common.{◌≡◌, inl, ℕ, ◌+◌, Bool, true, false, cond, ◌&&◌, Option, Some, None, List, [], ◌∷◌, ◌++◌, map, length, length-append, refl, sym, ap, ap₂, ◌∙◌, subst, true≢false, append-nil, append_assoc, arith}
+use Rattle.std.proofs.lemmas.List.{map-append}
 use Rattle.std.proofs.lemmas.Option.{same_Some}
 use Rattle.toml_scalar.specs.Spelling.{spelled}
 use Rattle.toml_tree.specs.Bare.{fresh}
@@ -30,7 +31,7 @@ use Rattle.toml_working.specs.Removing.{no_blank}
 use Rattle.toml_working.specs.Placing.{is_header}
 use Rattle.toml_working.specs.Standing.{Standing, line_stands, is_below, standing, standing_from}
 use Rattle.toml_editor.proofs.written.Clear.{differ}
-use Rattle.toml_editor.proofs.written.Counted.{count_array, count_table, one_if}
+use Rattle.toml_editor.proofs.written.Counted.{count_array, count_table, counts_stay, one_if, own_counts}
 use Rattle.toml_editor.proofs.written.CountedAlike.{stand_counted}
 use Rattle.toml_editor.proofs.written.CountedApart.{stand_apart}
 use Rattle.toml_editor.proofs.written.DocumentSections.{named_next}
@@ -114,6 +115,20 @@ front_headless (z ∷ zs) back xs n is none =
       headless xs z.0.expr (ap (λ (s : Standing). is_header s.base s.address) head ∙ none.0),
       front_headless zs back (xs ++ named_by xs n z.0.expr) (n + 1) rest none.1,
     )
+
+-- Behind a line, and lines without a header, the arrays of tables on the way to the line have so many tables as its address says.
+pub counted_behind : (lines : List Line) (before : List Shown) (line : Shown) (between back : List Shown) → shown lines ≡ before ++ line ∷ (between ++ back)
+    → EachIs IsHeadlessShown between → (a r rest : Address) (i : ℕ) → line.1.address ≡ Some a → a ≡ r ++ Index i ∷ rest
+    → count_tables (named (lines_of (before ++ line ∷ between))) r ≡ i + 1
+counted_behind lines before line between back whole none a r rest i own at =
+    let all = parts before (line ∷ (between ++ back)) lines [] whole in
+    let b = lines_of before in
+    let here : line_stands (named b) line.0 ≡ line.1 = (let x = all.back_stands in cc) in
+    let owned : own_address (named b) line.0.expr ≡ Some a = ap (λ (x : Standing). x.address) here ∙ own in
+    let rest_shown : shown lines ≡ (before ++ line ∷ []) ++ (between ++ back) = whole ∙ sym (append_assoc before (line ∷ []) (between ++ back)) in
+    ap (λ ls. count_tables (named ls) r) (map-append (λ (x : Shown). x.0) before (line ∷ between) ∙ sym (append_assoc b (line.0 ∷ []) (lines_of between)))
+    ∙ counts_stay (b ++ line.0 ∷ []) (lines_of between) r (front_headless between back _ _ (parts (before ++ line ∷ []) (between ++ back) lines [] rest_shown).back_stands none)
+    ∙ own_counts b line.0 a r rest i owned at
 
 -- ---- the header line
 

@@ -115,11 +115,11 @@ blank_behind style (m ∷ k ∷ ls) l = ap (λ r. m ∷ r) (blank_behind style (
 
 -- ---- an array of which the header line stands behind all lines
 
-apart_at_end : (brackets : Brackets) (p : Address) (front : List Line) → IsApart brackets p front []
+pub apart_at_end : (brackets : Brackets) (p : Address) (front : List Line) → IsApart brackets p front []
 apart_at_end One p front = tt
 apart_at_end Two p front = λ q i is. refl
 
-apart_before_empty : (brackets : Brackets) (p : Address) (front : List Line) (l : Line) → has_no_bytes (line_outline l) ≡ true → IsApart brackets p front (l ∷ [])
+pub apart_before_empty : (brackets : Brackets) (p : Address) (front : List Line) (l : Line) → has_no_bytes (line_outline l) ≡ true → IsApart brackets p front (l ∷ [])
 apart_before_empty One p front l is = tt
 apart_before_empty Two p front l is = λ q i at. ap (λ s. list_any (is_below q) (s ∷ [])) (empty_stands (named front) l l.newline is)
 
