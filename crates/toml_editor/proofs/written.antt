@@ -10,6 +10,7 @@ pub mod Certify
 pub mod Clear
 pub mod Closed
 pub mod Counted
+pub mod CountedApart
 pub mod CountedAlike
 pub mod CountedArrays
 pub mod Deep
@@ -31,6 +32,8 @@ pub mod ExamplesHeaded
 pub mod Exchanged
 pub mod Fitting
 pub mod Follow
+pub mod FollowedPlace
+pub mod FollowedSplit
 pub mod Formed
 pub mod HeaderCounted
 pub mod HeaderFollow
@@ -41,6 +44,7 @@ pub mod HeaderPlace
 pub mod HeaderPut
 pub mod HeaderSplit
 pub mod HeaderStood
+pub mod HeaderThere
 pub mod HeadersAlone
 pub mod HeadersRenamed
 pub mod InTurn
