@@ -20,7 +20,7 @@ use Rattle.toml_working.specs.Headers.{has_no_bytes, new_header, put_at_text_end
 use Rattle.toml_working.specs.InsertStanding as stood
 use Rattle.toml_working.specs.RenameStanding.{names_in}
 use Rattle.toml_working.specs.Standing.{Standing, is_below, lies_below, line_stands, standing, standing_from}
-use Rattle.toml_editor.specs.HeadingFollowed.{blank_at_end, header_at_end, header_line_behind, line_behind_below, line_behind_family, or_header_at_end}
+use Rattle.toml_working.specs.HeadingFollowed.{blank_at_end, header_at_end, header_line_behind, line_behind_below, line_behind_family, or_header_at_end}
 use Rattle.toml_editor.proofs.Each.{each_front}
 use Rattle.toml_editor.proofs.written.Counted.{AreLast, last_root}
 use Rattle.toml_editor.proofs.written.FollowedSplit.{Followed, LastThere, NotFollowed, followed}

@@ -11,7 +11,7 @@ use Rattle.toml_working.specs.Heading.{Shown}
 use Rattle.toml_working.specs.InsertStanding.{has_pair, is_bare, is_blank, pair_or}
 use Rattle.toml_working.specs.Placing.{is_header}
 use Rattle.toml_working.specs.Standing.{Standing, is_below}
-use Rattle.toml_editor.specs.HeadingFollowed.{line_behind_below, line_behind_section}
+use Rattle.toml_working.specs.HeadingFollowed.{line_behind_below, line_behind_section}
 use Rattle.toml_editor.proofs.written.HeaderSplit.{IsHeadlessShown, lines_of, stand_of}
 
 -- ---- lines without a header

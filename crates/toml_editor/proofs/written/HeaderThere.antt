@@ -24,7 +24,7 @@ use Rattle.toml_working.specs.Inserting.{has_pair}
 use Rattle.toml_working.specs.InsertStanding.{end_in}
 use Rattle.toml_working.specs.Removing.{empty_line}
 use Rattle.toml_working.specs.Standing.{Standing, is_below, line_stands, standing}
-use Rattle.toml_editor.specs.HeadingFollowed.{blank_at_end}
+use Rattle.toml_working.specs.HeadingFollowed.{blank_at_end}
 use Rattle.toml_editor.proofs.written.Counted.{AreLast, counts_stay}
 use Rattle.toml_editor.proofs.written.DocumentSections.{named_next}
 use Rattle.toml_editor.proofs.written.HeaderPut.{IsApart, IsHeaderPut, ended}
