@@ -18,7 +18,7 @@ use Rattle.toml_units.specs.Bares.{bare_unit}
 use Rattle.toml_editor.proofs.written.Way.{Step, both, old, new, olds, news, one_line, is_here}
 use Rattle.toml_editor.proofs.written.WayComments.{added, comments, times_cons}
 use Rattle.toml_editor.proofs.written.WayFits.{Matches, IsAsked, Fits}
-use Rattle.toml_editor.proofs.written.WayKeeps.{moved_site, Ends, Stays, ComesOwed, Keeps, no_more, kept_on, moved_on, line_moved_on, line_is}
+use Rattle.toml_editor.proofs.written.WayKeeps.{moved_site, Ends, StaysIf, ComesOwed, KeepsIf, no_more, kept_on, moved_on, line_moved_on, line_is}
 use Rattle.toml_editor.proofs.written.WayOwed.{along, IsOwedBelow, owed_below, owed_on, below_on, written_on}
 
 at_map : {P Q : Address → Type 0} → ((a : Address) → P a → Q a) → (o : Option Address) → At o P → At o Q
@@ -62,7 +62,16 @@ lost_on c cs line u lost =
     let next = option_map (moved_site (c ∷ [])) line in
     kept_on c cs line next u w refl (λ is. refl) ∙ ap (λ x. x && is_here cs next w) lost
 
-module _ (c : Change) (cs : List Change) (ts : List (List ℕ)) (more : List (List (List ℕ))) (before between after : List (List ℕ)) where
+-- each line that comes is owed, where not always a last line of no bytes stays the last
+abbrev pub IsSure : Type 0 → Change → List Step → Type 0
+IsSure Firm c [] = Unit {0}
+IsSure Firm c (both u w ∷ s) = IsSure Firm c s
+IsSure Firm c (old u ∷ s) = IsSure Firm c s
+IsSure Firm c (new w ∷ s) = (Firm ⊎ (w.kind ≡ kinds.Line → At w.address (IsOwed (c ∷ [])))) × IsSure Firm c s
+
+-- `Former` and `Later` tell when a last line of no bytes stays the last under the first edit, and under the others; `Firm` when under all.
+module _ (Firm Former Later : Type 0) (former : Firm → Former) (later : Firm → Later) (c : Change) (cs : List Change) (ts : List (List ℕ))
+    (more : List (List (List ℕ))) (before between after : List (List ℕ)) where
   abbrev First : Option Site → ℕ → ℕ → TextUnit → TextUnit → Type 0
   First = Matches (c ∷ []) (ts ∷ []) before between
 
@@ -70,10 +79,10 @@ module _ (c : Change) (cs : List Change) (ts : List (List ℕ)) (more : List (Li
   Then = Matches cs more between after
 
   abbrev FirstStays : Option Site → Option Site → ℕ → ℕ → TextUnit → TextUnit → Type 0
-  FirstStays = Stays (c ∷ []) before between
+  FirstStays = StaysIf Former (c ∷ []) before between
 
   abbrev ThenStays : Option Site → Option Site → ℕ → ℕ → TextUnit → TextUnit → Type 0
-  ThenStays = Stays cs between after
+  ThenStays = StaysIf Later cs between after
 
   -- ---- where the first way ends the second begins, but for places
 
@@ -173,35 +182,42 @@ module _ (c : Change) (cs : List Change) (ts : List (List ℕ)) (more : List (Li
       lost = λ h. ((λ is. (on_line (sym n.kind ∙ is) h).owed), no_comment h);
     }
 
-    both_stay : Stays (c ∷ cs) before after line next a d u v
+    both_stay : StaysIf Firm (c ∷ cs) before after line next a d u v
     both_stay = record {
       goes = l.goes ∙ ap (moved_site cs) k.goes ∙ moved_on c cs (site u);
       home = λ is. l.home (ap is_comment m.kind ∙ is) ∙ ap (option_map (moved_site cs)) (k.home is) ∙ line_moved_on c cs line;
       ends = line_ends;
       empty = λ firm is here none last.
-          l.empty firm (m.kind ∙ is) (kept_then here) ((m.kept (kept_first here)).text ∙ none) (k.empty firm is (kept_first here) none last);
+          l.empty (later firm) (m.kind ∙ is) (kept_then here) ((m.kept (kept_first here)).text ∙ none) (k.empty (former firm) is (kept_first here) none last);
       header = λ is none gone. (on_line (m.kind ∙ is) gone).header none;
     }
 
   -- ---- a unit that comes, and goes on
 
   module _ (mid next : Option Site) (b d : ℕ) (w v : TextUnit) (m : IsAsked (c ∷ []) (ts ∷ []) before between b w)
-      (k : ComesOwed (c ∷ []) before between w) (n : Then mid b d w v) (l : ThenStays mid next b d w v) where
+      (k : ComesOwed (c ∷ []) before between w) (sure : Later ⊎ (w.kind ≡ kinds.Line → At w.address (IsOwed (c ∷ [])))) (n : Then mid b d w v)
+      (l : ThenStays mid next b d w v) where
     new_line : v.kind ≡ kinds.Line → At v.address (IsOwed (c ∷ cs)) ⊎ ((d + 1 ≡ length after) × (v.piece.text ≡ []) × ¬ (c ∷ cs ≡ []))
     new_line is = by (is_here cs mid w) refl
       where
         line : w.kind ≡ kinds.Line
         line = sym n.kind ∙ is
 
+        goes_owed : is_here cs mid w ≡ true → At w.address (IsOwed (c ∷ [])) → At v.address (IsOwed (c ∷ cs))
+        goes_owed then owed =
+            let on = line_owed c cs w.base w.address v.address (sym (line_is cs mid w line) ∙ then) (n.kept then).address owed
+            (λ none. elim (k line none) [ inl blank ↦ absurd (subst (λ o. At o (IsOwed (c ∷ []))) blank owed) | inr below ↦ below ]) in
+            on.owed
+
         by : (y : Bool) → is_here cs mid w ≡ y → At v.address (IsOwed (c ∷ cs))
             ⊎ ((d + 1 ≡ length after) × (v.piece.text ≡ []) × ¬ (c ∷ cs ≡ []))
         by false then = inl (at_map (λ e o. inr o) v.address ((n.lost then).0 is))
         by true then = elim (m.line line) [
-          | inr last ↦ inr (l.empty tt line then last.1 last.0, (n.kept then).text ∙ last.1, (λ none. cc))
-          | inl owed ↦
-              let on = line_owed c cs w.base w.address v.address (sym (line_is cs mid w line) ∙ then) (n.kept then).address owed
-              (λ none. elim (k line none) [ inl blank ↦ absurd (subst (λ o. At o (IsOwed (c ∷ []))) blank owed) | inr below ↦ below ]) in
-              inl on.owed
+          | inr last ↦ elim sure [
+            | inl firm ↦ inr (l.empty firm line then last.1 last.0, (n.kept then).text ∙ last.1, (λ none. cc))
+            | inr owed ↦ inl (goes_owed then (owed line))
+          ]
+          | inl owed ↦ inl (goes_owed then owed)
         ]
 
     new_asked : IsAsked (c ∷ cs) (ts ∷ more) before after d v
@@ -259,7 +275,7 @@ module _ (c : Change) (cs : List Change) (ts : List (List ℕ)) (more : List (Li
     pub olds_are : olds way ≡ olds s
     pub news_are : news way ≡ news t
     pub fits : Fits (c ∷ cs) (ts ∷ more) before after line a d way
-    pub keeps : Keeps (c ∷ cs) before after line next a d way
+    pub keeps : KeepsIf Firm (c ∷ cs) before after line next a d way
     pub few : (x : List ℕ)
         → times x (texts (comments (added way))) ≤ times x (texts (comments (added s))) + times x (texts (comments (added t)))
 
@@ -268,13 +284,13 @@ module _ (c : Change) (cs : List Change) (ts : List (List ℕ)) (more : List (Li
 
   abbrev pub GoesOn : List Step → List Step → Type 0
   GoesOn s t = (line mid next : Option Site) (a b d : ℕ) → Fits (c ∷ []) (ts ∷ []) before between line a b s
-      → Keeps (c ∷ []) before between line mid a b s
-      → Fits cs more between after mid b d t → Keeps cs between after mid next b d t → Whole line next a d s t
+      → KeepsIf Former (c ∷ []) before between line mid a b s → IsSure Later c s
+      → Fits cs more between after mid b d t → KeepsIf Later cs between after mid next b d t → Whole line next a d s t
 
   -- one more comes by the others
   comes : (v : TextUnit) (s t : List Step) → GoesOn s t → GoesOn s (new v ∷ t)
-  comes v s t go line mid next a b d fit keep fits keeps =
-      let r = go line mid (next_line next (site v)) a b (d + one_line v.kind) fit keep fits.1 keeps.1 in
+  comes v s t go line mid next a b d fit keep sure fits keeps =
+      let r = go line mid (next_line next (site v)) a b (d + one_line v.kind) fit keep sure fits.1 keeps.1 in
       record {
         way = new v ∷ r.way;
         olds_are = r.olds_are;
@@ -307,8 +323,8 @@ module _ (c : Change) (cs : List Change) (ts : List (List ℕ)) (more : List (Li
       counted_too r false x few = few
 
   goes : (u : TextUnit) (s t : List Step) → GoesOn s t → GoesOn (old u ∷ s) t
-  goes u s t go line mid next a b d fit keep fits keeps =
-      let r = go (next_line line (site u)) mid next (a + one_line u.kind) b d fit.1 keep fits keeps in
+  goes u s t go line mid next a b d fit keep sure fits keeps =
+      let r = go (next_line line (site u)) mid next (a + one_line u.kind) b d fit.1 keep sure fits keeps in
       record {
         way = old u ∷ r.way;
         olds_are = ap (λ l. u ∷ l) r.olds_are;
@@ -333,14 +349,14 @@ module _ (c : Change) (cs : List Change) (ts : List (List ℕ)) (more : List (Li
       subst (λ (y : TextUnit). Fits cs more between after (next_line mid (site y)) (b + one_line y.kind) d t) (sym same)
 
   next_keeps : (w x : TextUnit) → bare_unit w ≡ bare_unit x → (mid next : Option Site) (b d : ℕ) (t : List Step)
-      → Keeps cs between after (next_line mid (site x)) next (b + one_line x.kind) d t
-      → Keeps cs between after (next_line mid (site w)) next (b + one_line w.kind) d t
+      → KeepsIf Later cs between after (next_line mid (site x)) next (b + one_line x.kind) d t
+      → KeepsIf Later cs between after (next_line mid (site w)) next (b + one_line w.kind) d t
   next_keeps w x same mid next b d t =
-      subst (λ (y : TextUnit). Keeps cs between after (next_line mid (site y)) next (b + one_line y.kind) d t) (sym same)
+      subst (λ (y : TextUnit). KeepsIf Later cs between after (next_line mid (site y)) next (b + one_line y.kind) d t) (sym same)
 
   none : (t : List Step) → Meets [] t → GoesOn [] t
   none [] is =
-      λ line mid next a b d fit keep fits keeps. record {
+      λ line mid next a b d fit keep sure fits keeps. record {
         way = [];
         olds_are = refl;
         news_are = refl;
@@ -356,11 +372,11 @@ module _ (c : Change) (cs : List Change) (ts : List (List ℕ)) (more : List (Li
       → GoesOn (both u w ∷ s) t
   passes u w s go [] is = cc
   passes u w s go (new v ∷ t) is = comes v (both u w ∷ s) t (passes u w s go t is)
-  passes u w s go (old x ∷ t) is = λ line mid next a b d fit keep fits keeps.
+  passes u w s go (old x ∷ t) is = λ line mid next a b d fit keep sure fits keeps.
       let same = head w x (news s) (olds t) is in
       let r =
       go t (rest w x (news s) (olds t) is) (next_line line (site u)) (next_line mid (site w)) next (a + one_line u.kind)
-      (b + one_line w.kind) d fit.1 keep.1
+      (b + one_line w.kind) d fit.1 keep.1 sure
       (next_fits w x same mid b d t fits.1) (next_keeps w x same mid next b d t keeps) in
       record {
         way = old u ∷ r.way;
@@ -374,13 +390,13 @@ module _ (c : Change) (cs : List Change) (ts : List (List ℕ)) (more : List (Li
         keeps = r.keeps;
         few = r.few;
       }
-  passes u w s go (both x v ∷ t) is = λ line mid next a b d fit keep fits keeps.
+  passes u w s go (both x v ∷ t) is = λ line mid next a b d fit keep sure fits keeps.
       let same = head w x (news s) (olds t) is in
       let n = bared_match mid next b d w x v same fits.0 in
       let l = bared_stays mid next b d w x v same keeps.0 in
       let r =
       go t (rest w x (news s) (olds t) is) (next_line line (site u)) (next_line mid (site w)) (next_line next (site v))
-      (a + one_line u.kind) (b + one_line w.kind) (d + one_line v.kind) fit.1 keep.1
+      (a + one_line u.kind) (b + one_line w.kind) (d + one_line v.kind) fit.1 keep.1 sure
       (next_fits w x same mid b (d + one_line v.kind) t fits.1)
       (next_keeps w x same mid (next_line next (site v)) b (d + one_line v.kind) t keeps.1) in
       record {
@@ -396,10 +412,10 @@ module _ (c : Change) (cs : List Change) (ts : List (List ℕ)) (more : List (Li
       → GoesOn (new w ∷ s) t
   came w s go [] is = cc
   came w s go (new v ∷ t) is = comes v (new w ∷ s) t (came w s go t is)
-  came w s go (old x ∷ t) is = λ line mid next a b d fit keep fits keeps.
+  came w s go (old x ∷ t) is = λ line mid next a b d fit keep sure fits keeps.
       let same = head w x (news s) (olds t) is in
       let r =
-      go t (rest w x (news s) (olds t) is) line (next_line mid (site w)) next a (b + one_line w.kind) d fit.1 keep.1
+      go t (rest w x (news s) (olds t) is) line (next_line mid (site w)) next a (b + one_line w.kind) d fit.1 keep.1 sure.1
       (next_fits w x same mid b d t fits.1) (next_keeps w x same mid next b d t keeps) in
       record {
         way = r.way;
@@ -414,22 +430,22 @@ module _ (c : Change) (cs : List Change) (ts : List (List ℕ)) (more : List (Li
           → times y (texts (comments (added s))) ≤ times y (texts (cond z (w ∷ comments (added s)) (comments (added s))))
       fewer true y = let e = times_cons y w.piece.text (texts (comments (added s))) in omega (arith, e)
       fewer false y = omega arith
-  came w s go (both x v ∷ t) is = λ line mid next a b d fit keep fits keeps.
+  came w s go (both x v ∷ t) is = λ line mid next a b d fit keep sure fits keeps.
       let same = head w x (news s) (olds t) is in
       let n = bared_match mid next b d w x v same fits.0 in
       let l = bared_stays mid next b d w x v same keeps.0 in
       let r =
       go t (rest w x (news s) (olds t) is) line (next_line mid (site w)) (next_line next (site v)) a (b + one_line w.kind)
-      (d + one_line v.kind) fit.1 keep.1
+      (d + one_line v.kind) fit.1 keep.1 sure.1
       (next_fits w x same mid b (d + one_line v.kind) t fits.1)
       (next_keeps w x same mid (next_line next (site v)) b (d + one_line v.kind) t keeps.1) in
       record {
         way = new v ∷ r.way;
         olds_are = r.olds_are;
         news_are = ap (λ l. v ∷ l) r.news_are;
-        fits = (new_asked mid next b d w v fit.0 keep.0 n l, r.fits);
-        keeps = (new_owed mid next b d w v fit.0 keep.0 n l, r.keeps);
-        few = λ y. counted mid next b d w v fit.0 keep.0 n l (added r.way) (added s) y (times y (texts (comments (added t)))) (r.few y);
+        fits = (new_asked mid next b d w v fit.0 keep.0 sure.0 n l, r.fits);
+        keeps = (new_owed mid next b d w v fit.0 keep.0 sure.0 n l, r.keeps);
+        few = λ y. counted mid next b d w v fit.0 keep.0 sure.0 n l (added r.way) (added s) y (times y (texts (comments (added t)))) (r.few y);
       }
 
   pub goes_on : (s t : List Step) → Meets s t → GoesOn s t
