@@ -61,7 +61,7 @@ some_lines : (xs : List Named) (n : ℕ) (l : Line) (ls : List Line) → 0 < lin
 some_lines xs n l ls = let both = lines_append (line_units xs l.expr)
     (units_from (xs ++ named_by xs n l.expr) (n + 1) ls) in let one = line_lines xs l.expr in omega (arith, both, one)
 
-put_behind : (Formed : Type 0) (us old block new : List TextUnit) (before after : List (List ℕ)) (newline : List ℕ) → lines_in us ≡ 1 → 0 < lines_in old
+abbrev put_behind : (Formed : Type 0) (us old block new : List TextUnit) (before after : List (List ℕ)) (newline : List ℕ) → lines_in us ≡ 1 → 0 < lines_in old
     → IsPutWell Formed old block new before after
     → IsPutWell Formed (us ++ old) block (us ++ new) (newline ∷ before) (newline ∷ after)
 put_behind Formed us old block new before after newline one some h =
@@ -115,7 +115,7 @@ put_before Formed e block xs n m ls ending own same = record {
     one_block is = ap lines_in (sym is) ∙ line_lines xs e
 
 -- behind a last line, which gets a newline
-pub put_end : (Formed : Type 0) (l : Line) (block us : List TextUnit) (xs : List Named) (ending : List ℕ) (ends : List (List ℕ)) → us ≡ block
+abbrev pub put_end : (Formed : Type 0) (l : Line) (block us : List TextUnit) (xs : List Named) (ending : List ℕ) (ends : List (List ℕ)) → us ≡ block
     → ((a : ℕ) → slice_get ends (lines_in block + a) ≡ None) → (Formed → LastIsFull (line_units xs l.expr))
     → IsPutWell Formed (line_units xs l.expr ++ []) block (line_units xs l.expr ++ us) (l.newline.text ∷ []) (ending ∷ ends)
 put_end Formed l block us xs ending ends own past full = record {
@@ -159,6 +159,13 @@ module _ (Formed : Type 0) (block : List TextUnit) (l : Line) (back new some : L
   put_among (m ∷ front) xs n there =
       put_behind Formed (line_units xs m.expr) _ block _ (newlines (front ++ l ∷ back)) (newlines (front ++ new)) m.newline.text (line_lines xs m.expr)
       (some_units front (xs ++ named_by xs n m.expr) (n + 1)) (put_among front (xs ++ named_by xs n m.expr) (n + 1) there)
+
+  -- all stands in front of it, if it does so where it is put in
+  pub among_back : ((xs : List Named) (n : ℕ) (there : Here (named_from xs n some)) → (here xs n there).put.back ≡ [])
+      → (front : List Line) (xs : List Named) (n : ℕ) (there : Here (named_from xs n (front ++ some))) → (put_among front xs n there).put.back ≡ []
+  unfolding put_among
+  among_back none [] xs n there = none xs n there
+  among_back none (m ∷ front) xs n there = among_back none front (xs ++ named_by xs n m.expr) (n + 1) there
 
 -- the lines in the forms are formed
 pub formed_well : (Formed Other : Type 0) (old new block : List TextUnit) (before after : List (List ℕ)) → (Other → Formed) → IsPutWell Formed old block new before after

@@ -58,6 +58,18 @@ Stays = StaysIf (Unit {0})
 abbrev pub Keeps : List Change → List (List ℕ) → List (List ℕ) → Option Site → Option Site → ℕ → ℕ → List Step → Type 0
 Keeps = KeepsIf (Unit {0})
 
+module _ (Firm Other : Type 0) (firm : Other → Firm) (cs : List Change) (before after : List (List ℕ)) where
+  pub keeps_weaker : (s : List Step) (line next : Option Site) (a b : ℕ) → KeepsIf Firm cs before after line next a b s
+      → KeepsIf Other cs before after line next a b s
+  keeps_weaker [] line next a b keeps = tt
+  keeps_weaker (both u w ∷ s) line next a b keeps =
+      let stays = keeps.0 in (
+        record { goes = stays.goes; home = stays.home; ends = stays.ends; empty = λ other. stays.empty (firm other); header = stays.header },
+        keeps_weaker s (next_line line (site u)) (next_line next (site w)) (a + one_line u.kind) (b + one_line w.kind) keeps.1,
+      )
+  keeps_weaker (old u ∷ s) line next a b keeps = keeps_weaker s (next_line line (site u)) next (a + one_line u.kind) b keeps
+  keeps_weaker (new w ∷ s) line next a b keeps = (keeps.0, keeps_weaker s line (next_line next (site w)) a (b + one_line w.kind) keeps.1)
+
 -- ---- what is protected under an edit and those that follow
 
 pub no_more : (o : Option Address) → option_and_then (carried []) o ≡ o

@@ -1,5 +1,5 @@
 -- The way of an edit that puts a line in, and so of an `insert`.
-use Rattle.std.proofs.Common.{◌≡◌, ◌⊎◌, inl, inr, ◌<◌, ◌+◌, ℕ, suc, false, Option, Some, None, List, [], ◌∷◌, ◌++◌, map, length, refl, sym, ap, ap₂, ◌∙◌, subst, subst₂, true≢false, arith, append-nil}
+use Rattle.std.proofs.Common.{◌≡◌, ◌⊎◌, inl, inr, ◌<◌, ◌+◌, ℕ, false, Option, Some, None, List, [], ◌∷◌, ◌++◌, map, length, refl, sym, ap, ap₂, ◌∙◌, subst, subst₂, true≢false, arith, append-nil}
 use Rattle.std.specs.Prelude.{slice_get, option_and_then}
 use Rattle.toml_tree.specs.Spells.{AreLines, EachIs}
 use Rattle.toml_tree.specs.Tree.{Value, Line}
