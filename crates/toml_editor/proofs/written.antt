@@ -15,6 +15,7 @@ pub mod CountedAlike
 pub mod CountedArrays
 pub mod Deep
 pub mod DocumentSections
+pub mod ElementCounted
 pub mod ElementHeaded
 pub mod Elsewhere
 pub mod EmptiedLine

@@ -40,7 +40,7 @@ begins_at : (e a : Address) → (a ≡ e) ⊎ IsAbove e a → (rest : Address) �
 begins_at e a (inl is) = ([], is ∙ sym (append-nil e))
 begins_at e a (inr (s, rest, is)) = (s ∷ rest, is)
 
-below_is : (e : Address) (base : Option ℕ) (own : Option Address) → heads_below e base own ≡ true → (a : Address) × (own ≡ Some a) × (rest : Address) × (a ≡ e ++ rest)
+pub below_is : (e : Address) (base : Option ℕ) (own : Option Address) → heads_below e base own ≡ true → (a : Address) × (own ≡ Some a) × (rest : Address) × (a ≡ e ++ rest)
 below_is e (Some n) own is = absurd (true≢false (sym is))
 below_is e None None is = absurd (true≢false (sym is))
 below_is e None (Some a) is =
