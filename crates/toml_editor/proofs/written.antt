@@ -30,6 +30,7 @@ pub mod ExamplesHeaded
 pub mod Exchanged
 pub mod Fitting
 pub mod Follow
+pub mod FollowedFacts
 pub mod FollowedPlace
 pub mod FollowedSplit
 pub mod Formed

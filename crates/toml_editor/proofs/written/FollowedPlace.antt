@@ -58,7 +58,7 @@ last_spaced f (s ∷ ss) each = by (last_that f ss) (f s) (last_spaced f ss each
 
 -- ---- the last line at the address or below it
 
-any_back : (test : Standing → Bool) (xs ys : List Standing) → list_any test (xs ++ ys) ≡ false → list_any test ys ≡ false
+pub any_back : (test : Standing → Bool) (xs ys : List Standing) → list_any test (xs ++ ys) ≡ false → list_any test ys ≡ false
 any_back test xs ys none = by (list_any test xs) (sym (list_any-append test xs ys) ∙ none)
   where
     by : (b : Bool) → (b || list_any test ys) ≡ false → list_any test ys ≡ false
