@@ -17,6 +17,7 @@ pub mod Deep
 pub mod DocumentSections
 pub mod ElementCounted
 pub mod ElementHeaded
+pub mod ElementPlace
 pub mod Elsewhere
 pub mod EmptiedLine
 pub mod EmptyAlone

@@ -10,7 +10,7 @@ use Rattle.toml_tree.specs.Tree.{Expr, BlankLine, KeyValLine, TableLine, ArrayTa
 use Rattle.toml_names.specs.declared.model.address.Step.{Step}
 use Rattle.toml_names.specs.declared.model.address.Step.TheVariants.{Name, Index}
 use Rattle.toml_names.specs.mentions.Keys.{Key, key_names, part_name, rest_names}
-use Rattle.toml_names.specs.mentions.Mentions.{Kind, Named, a_table, count_tables, named, named_by, named_from, root, section}
+use Rattle.toml_names.specs.mentions.Mentions.{Kind, Named, a_table, an_array, count_tables, named, named_by, named_from, root, section}
 use Rattle.toml_names.specs.mentions.Rules.{KeepsRules}
 use Rattle.toml_names.specs.model.Addresses.{Address, below, child, element, same_address}
 use Rattle.toml_names.specs.model.Data.{IsDataOf, Kinds}
@@ -26,7 +26,7 @@ use Rattle.toml_working.specs.Removing.{no_blank}
 use Rattle.toml_working.specs.Seeing.{is_sought_line}
 use Rattle.toml_working.specs.Standing.{Standing, holds, is_below, leads_to, lies_below, standing, standing_from}
 use Rattle.toml_editor.proofs.written.Clear.{below-cons, same_is}
-use Rattle.toml_editor.proofs.written.Counted.{AreLast, count_array, count_next, count_none, count_pair, count_table, counts_grow, last_step, one_if, own_counts}
+use Rattle.toml_editor.proofs.written.Counted.{AreLast, count_array, count_next, count_none, count_pair, count_table, counts_grow, last_step, one_if, own_counts, same_last}
 use Rattle.toml_editor.proofs.written.CountedApart.{under_begins}
 use Rattle.toml_editor.proofs.written.CountedArrays.{IsNamedLast, element_unnamed}
 use Rattle.toml_editor.proofs.written.DocumentSections.{begins_longer, line_of, named_next}
@@ -34,8 +34,10 @@ use Rattle.toml_editor.proofs.written.ElementHeaded.{some_named, unheaded_unname
 use Rattle.toml_editor.proofs.written.EmptyAlone.{not_any}
 use Rattle.toml_editor.proofs.written.HeaderLeads.{leads}
 use Rattle.toml_editor.proofs.written.HeaderPlace.{below_is}
+use Rattle.toml_editor.proofs.written.HeaderPut.{IsApart}
 use Rattle.toml_editor.proofs.written.OneSection.{among_of}
 use Rattle.toml_editor.proofs.written.Pairwise.{Has, any_of_has, has_append_left, has_append_right, has_weaker}
+use Rattle.toml_editor.proofs.written.SectionFacts.{IsNextElement}
 use Rattle.toml_editor.proofs.written.StandingOrder.{Own, begins_is, own_named}
 
 abbrev IsAt : Address → Named → Type 0
@@ -130,7 +132,7 @@ module _ (q : Address) where
       by true same =
           absurd (true≢false (sym (under_begins q (element at (count_tables xs at)) (Index (count_tables xs at) ∷ [], ap (λ x. element x (count_tables xs at)) (same_is at q same))) ∙ away))
 
-  pub count_away : (back front : List Line) → EachIs (λ s. is_below q s ≡ false) (standing_from (named front) (length front) back)
+  count_away : (back front : List Line) → EachIs (λ s. is_below q s ≡ false) (standing_from (named front) (length front) back)
       → count_tables (named (front ++ back)) q ≡ count_tables (named front) q
   count_away [] front away = ap (λ ls. count_tables (named ls) q) (append-nil front)
   count_away (l ∷ back) front away =
@@ -197,7 +199,7 @@ module _ (q : Address) where
             omega (arith, here, grow, all)
 
     -- So the array has as many tables as the data have elements.
-    pub count_is : (i : ℕ) → kinds (element q i) ≡ None → ((j : ℕ) → j < i → IsSome (kinds (element q j))) → count_tables (named lines) q ≡ i
+    count_is : (i : ℕ) → kinds (element q i) ≡ None → ((j : ℕ) → j < i → IsSome (kinds (element q j))) → count_tables (named lines) q ≡ i
     count_is i free there = by (nat_lt i (count_tables (named lines) q)) refl
       where
         c : ℕ
@@ -227,7 +229,7 @@ index_named (Index j ∷ q) i = index_named q i
 
 -- The key of an element's header leads to it, from where each index of the array's address is that of the last table of its array, and the array
 -- has as many tables as the index says.
-pub element_leads : (lines front back : List Line) (r : Address) (n : List ℕ) (i : ℕ) (ws : List ℕ) (kinds : Kinds) → lines ≡ front ++ back → KeepsRules (named lines)
+element_leads : (lines front back : List Line) (r : Address) (n : List ℕ) (i : ℕ) (ws : List ℕ) (kinds : Kinds) → lines ≡ front ++ back → KeepsRules (named lines)
     → IsDataOf (named lines) kinds → kinds r ≡ Some a_table → AreLast (named front) (child r n) → count_tables (named front) (child r n) ≡ i
     → own_address (named front) (header_expr Two (element (child r n) i) ws) ≡ Some (element (child r n) i)
 element_leads lines front back r n i ws kinds parts keeps facts table last count =
@@ -248,3 +250,28 @@ element_leads lines front back r n i ws kinds parts keeps facts table last count
 
     leads_there : own_address xs (header_expr One q ws) ≡ Some q
     leads_there = leads lines front back r n ws kinds parts keeps facts table in_table
+
+-- so it is of the next element, where the lines behind are apart from its array
+pub apart_element : (q : Address) (i : ℕ) (front back : List Line) → list_any (is_below q) (standing_from (named front) (length front) back) ≡ false
+    → IsApart Two (element q i) front back
+apart_element q i front back none a j is =
+    subst (λ x. list_any (is_below x) (standing_from (named front) (length front) back) ≡ false) (same_last q a (Index i) (Index j) is).0 none
+
+module _ (q : Address) (i : ℕ) (lines : List Line) (kinds : Kinds) (keeps : KeepsRules (named lines)) (facts : IsDataOf (named lines) kinds) (next : IsNextElement q i kinds)
+    (outside : list_any (holds q) (standing lines) ≡ false) where
+  next_count : count_tables (named lines) q ≡ i
+  next_count = count_is q lines kinds facts outside i next.free (elements next.next)
+    where
+      elements : ((kinds q ≡ None) × (i ≡ 0)) ⊎ ((kinds q ≡ Some an_array) × ((j : ℕ) → j < i → IsSome (kinds (element q j)))) → (j : ℕ) → j < i → IsSome (kinds (element q j))
+      elements (inl first) j low = absurd (let zero_is = first.1 in omega (arith, zero_is, low))
+      elements (inr more) j low = more.1 j low
+
+  pub next_leads : (ws : List ℕ) (front back : List Line) → lines ≡ front ++ back → AreLast (named front) q → IsApart Two (element q i) front back
+      → own_address (named front) (header_expr Two (element q i) ws) ≡ Some (element q i)
+  next_leads ws front back split last apart =
+      let (r, n, q_is, table) = next.table in
+      subst (λ x. own_address (named front) (header_expr Two (element x i) ws) ≡ Some (element x i)) (sym q_is)
+      (element_leads lines front back r n i ws kinds split keeps facts table (subst (AreLast (named front)) q_is last)
+      (ap (count_tables (named front)) (sym q_is)
+      ∙ sym (count_away q back front (not_any (is_below q) (standing_from (named front) (length front) back) (apart q i refl)))
+      ∙ ap (λ ls. count_tables (named ls) q) (sym split) ∙ next_count))

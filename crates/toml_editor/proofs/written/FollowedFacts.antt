@@ -24,12 +24,13 @@ use Rattle.toml_working.specs.Standing.{Standing, holds, is_below, lies_below, s
 use Rattle.toml_editor.specs.HeadingFollowed.{header_followed, header_line_behind, line_behind_family, or_header_at_end}
 use Rattle.toml_editor.proofs.written.Counted.{AreLast, last_child, same_last}
 use Rattle.toml_editor.proofs.written.CountedApart.{under_begins}
-use Rattle.toml_editor.proofs.written.ElementCounted.{count_away, count_is, element_leads}
+use Rattle.toml_editor.proofs.written.ElementCounted.{apart_element, next_leads}
 use Rattle.toml_editor.proofs.written.ElementHeaded.{away_unnamed, none_holds, some_named}
 use Rattle.toml_editor.proofs.written.EmptyAlone.{IsAway, not_any}
-use Rattle.toml_editor.proofs.written.FollowedPlace.{any_back, followed_put}
+use Rattle.toml_editor.proofs.written.FollowedPlace.{followed_put}
 use Rattle.toml_editor.proofs.written.HeaderLeads.{leads}
 use Rattle.toml_editor.proofs.written.HeaderPut.{IsApart}
+use Rattle.toml_editor.proofs.written.HeaderSplit.{any_back}
 use Rattle.toml_editor.proofs.written.HeaderStood.{stand_append}
 use Rattle.toml_editor.proofs.written.HeaderThere.{IsPutThere, put_as}
 use Rattle.toml_editor.proofs.written.SectionFacts.{IsNextElement, IsRoom}
@@ -140,25 +141,9 @@ element_followed q i style may lines kinds forms keeps facts next outside = by (
     put_at : Address → List Standing
     put_at f = or_at_end p Two style may (standing lines) (behind_family f (λ front. header_behind p Two front style) (standing lines))
 
-    all : count_tables (named lines) q ≡ i
-    all = count_is q lines kinds facts outside i next.free (elements next.next)
-      where
-        elements : ((kinds q ≡ None) × (i ≡ 0)) ⊎ ((kinds q ≡ Some an_array) × ((j : ℕ) → j < i → IsSome (kinds (element q j)))) → (j : ℕ) → j < i → IsSome (kinds (element q j))
-        elements (inl first) j low = absurd (let zero_is = first.1 in omega (arith, zero_is, low))
-        elements (inr more) j low = more.1 j low
-
     leads_there : (ws : List ℕ) (front back : List Line) → lines ≡ front ++ back → AreLast (named front) q → IsApart Two p front back
         → own_address (named front) (header_expr Two p ws) ≡ Some p
-    leads_there ws front back split last apart =
-        subst (λ x. own_address (named front) (header_expr Two (element x i) ws) ≡ Some (element x i)) (sym q_is)
-        (element_leads lines front back r n i ws kinds split keeps facts next.table.3 (subst (AreLast (named front)) q_is last)
-        (ap (count_tables (named front)) (sym q_is)
-        ∙ sym (count_away q back front (not_any (is_below q) (standing_from (named front) (length front) back) (apart q i refl)))
-        ∙ ap (λ ls. count_tables (named ls) q) (sym split) ∙ all))
-
-    apart_of : (front back : List Line) → list_any (is_below q) (standing_from (named front) (length front) back) ≡ false → IsApart Two p front back
-    apart_of front back none a j is =
-        subst (λ x. list_any (is_below x) (standing_from (named front) (length front) back) ≡ false) (same_last q a (Index i) (Index j) is).0 none
+    leads_there = next_leads q i lines kinds keeps facts next outside
 
     put_by : (f : Address) → family q p (standing lines) ≡ f → IsPutThere Two p style lines (header_at f) (put_at f)
         → IsPutThere Two p style lines (header_followed q Two p style may lines) (put_following q p Two style may (standing lines))
@@ -168,11 +153,11 @@ element_followed q i style may lines kinds forms keeps facts next outside = by (
         → IsPutThere Two p style lines (header_followed q Two p style may lines) (put_following q p Two style may (standing lines))
     by true there =
         put_by q (cond-false _ _ _ (ap₂ (λ a b. a && not b) (index_is_element q i) there))
-        (followed_put Two p q q style may lines forms (λ xs last. last) leads_there (λ not_root. there) (λ front back split none. apart_of front back none))
+        (followed_put Two p q q style may lines forms (λ xs last. last) leads_there (λ not_root. there) (λ front back split none. apart_element q i front back none))
     by false none =
         put_by r (cond-true _ _ _ (ap₂ (λ a b. a && not b) (index_is_element q i) none) ∙ ap right_above q_is ∙ above_child r n)
         (followed_put Two p q r style may lines forms (λ xs last. subst (AreLast xs) (sym q_is) (last_child xs r n last)) leads_there
         (line_below lines kinds facts r (subst IsSome (sym next.table.3) refl) (none_holds r (Name n ∷ []) (standing lines) (subst (λ x. list_any (holds x) (standing lines) ≡ false) q_is outside)))
-        (λ front back split away. apart_of front back
+        (λ front back split away. apart_element q i front back
         (any_back (is_below q) (standing front) (standing_from (named front) (length front) back)
         (ap (list_any (is_below q)) (sym (stand_append front back [])) ∙ ap (λ ls. list_any (is_below q) (standing ls)) (sym split) ∙ none))))

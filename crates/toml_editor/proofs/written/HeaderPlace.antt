@@ -25,7 +25,7 @@ use Rattle.toml_editor.proofs.written.StandingOrder.{begins_is}
 -- ---- lines by what stands on them
 
 -- no key comes before the next header, where that comes first
-header_unkeyed : (xs : List Named) (l : Line) (ls : List Line) → is_header (line_base xs l.expr) (own_address xs l.expr) ≡ true → has_pair (l ∷ ls) ≡ false
+pub header_unkeyed : (xs : List Named) (l : Line) (ls : List Line) → is_header (line_base xs l.expr) (own_address xs l.expr) ≡ true → has_pair (l ∷ ls) ≡ false
 header_unkeyed xs l ls is = by l.expr is
   where
     by : (e : Expr) → is_header (line_base xs e) (own_address xs e) ≡ true
