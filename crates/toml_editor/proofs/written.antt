@@ -10,15 +10,17 @@ pub mod Certify
 pub mod Clear
 pub mod Closed
 pub mod Counted
-pub mod CountedApart
 pub mod CountedAlike
+pub mod CountedApart
 pub mod CountedArrays
 pub mod Deep
 pub mod DocumentSections
+pub mod ElementCounted
 pub mod ElementFacts
 pub mod ElementHeaded
 pub mod ElementKept
 pub mod ElementNamed
+pub mod ElementPlace
 pub mod Elsewhere
 pub mod EmptiedLine
 pub mod EmptyAlone
@@ -32,6 +34,7 @@ pub mod ExamplesHeaded
 pub mod Exchanged
 pub mod Fitting
 pub mod Follow
+pub mod FollowedFacts
 pub mod FollowedPlace
 pub mod FollowedSplit
 pub mod Formed

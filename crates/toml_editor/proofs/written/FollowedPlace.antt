@@ -4,7 +4,6 @@ use Rattle.std.specs.List.{list_any}
 use Rattle.std.specs.Prelude.{not}
 use Rattle.std.proofs.lemmas.Bool.{and_parts, cond-true, cond-false}
 use Rattle.std.proofs.lemmas.List.{map-append}
-use Rattle.std.proofs.lemmas.List.Folds.{list_any-append}
 use Rattle.toml_text.specs.Forms.{IsWs}
 use Rattle.toml_tree.specs.Spells.{AreLines, EachIs, IsExpr}
 use Rattle.toml_tree.specs.Tree.{Expr, BlankLine, KeyValLine, TableLine, ArrayTableLine, Line}
@@ -25,7 +24,7 @@ use Rattle.toml_editor.proofs.Each.{each_front}
 use Rattle.toml_editor.proofs.written.Counted.{AreLast, last_root}
 use Rattle.toml_editor.proofs.written.FollowedSplit.{Followed, LastThere, NotFollowed, followed}
 use Rattle.toml_editor.proofs.written.HeaderPut.{IsApart}
-use Rattle.toml_editor.proofs.written.HeaderSplit.{IsHeadlessShown, IsOutlined, BeforeEmpty, BehindLast, at_end, lines_of, stand_of}
+use Rattle.toml_editor.proofs.written.HeaderSplit.{IsHeadlessShown, any_back, at_end, lines_of, stand_of}
 use Rattle.toml_editor.proofs.written.HeaderStood.{counted_behind, parts, shown_lines, shown_outlined, shown_stands}
 use Rattle.toml_editor.proofs.written.HeaderThere.{IsPutThere, apart_at_end, behind_blank, end_put, put_as, put_before, some_line}
 use Rattle.toml_editor.proofs.written.InsertStands.{has_same}
@@ -57,13 +56,6 @@ last_spaced f (s ∷ ss) each = by (last_that f ss) (f s) (last_spaced f ss each
     by (Some t) b h = h
 
 -- ---- the last line at the address or below it
-
-any_back : (test : Standing → Bool) (xs ys : List Standing) → list_any test (xs ++ ys) ≡ false → list_any test ys ≡ false
-any_back test xs ys none = by (list_any test xs) (sym (list_any-append test xs ys) ∙ none)
-  where
-    by : (b : Bool) → (b || list_any test ys) ≡ false → list_any test ys ≡ false
-    by true h = absurd (true≢false h)
-    by false h = h
 
 lies_is : (f : Address) (own : Option Address) → lies_below f own ≡ true → (a : Address) × (own ≡ Some a) × (rest : Address) × (a ≡ f ++ rest)
 lies_is f None is = absurd (true≢false (sym is))

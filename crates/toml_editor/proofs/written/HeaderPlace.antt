@@ -25,7 +25,7 @@ use Rattle.toml_editor.proofs.written.StandingOrder.{begins_is}
 -- ---- lines by what stands on them
 
 -- no key comes before the next header, where that comes first
-header_unkeyed : (xs : List Named) (l : Line) (ls : List Line) → is_header (line_base xs l.expr) (own_address xs l.expr) ≡ true → has_pair (l ∷ ls) ≡ false
+pub header_unkeyed : (xs : List Named) (l : Line) (ls : List Line) → is_header (line_base xs l.expr) (own_address xs l.expr) ≡ true → has_pair (l ∷ ls) ≡ false
 header_unkeyed xs l ls is = by l.expr is
   where
     by : (e : Expr) → is_header (line_base xs e) (own_address xs e) ≡ true
@@ -40,7 +40,7 @@ begins_at : (e a : Address) → (a ≡ e) ⊎ IsAbove e a → (rest : Address) �
 begins_at e a (inl is) = ([], is ∙ sym (append-nil e))
 begins_at e a (inr (s, rest, is)) = (s ∷ rest, is)
 
-below_is : (e : Address) (base : Option ℕ) (own : Option Address) → heads_below e base own ≡ true → (a : Address) × (own ≡ Some a) × (rest : Address) × (a ≡ e ++ rest)
+pub below_is : (e : Address) (base : Option ℕ) (own : Option Address) → heads_below e base own ≡ true → (a : Address) × (own ≡ Some a) × (rest : Address) × (a ≡ e ++ rest)
 below_is e (Some n) own is = absurd (true≢false (sym is))
 below_is e None None is = absurd (true≢false (sym is))
 below_is e None (Some a) is =
