@@ -1,20 +1,18 @@
 -- What is kept by a new element of an array of tables: the table rules, the bound on addresses, the data, the forms, the profile.
-use Rattle.std.proofs.Common.{◌≡◌, ◌⊎◌, inl, inr, ◌<◌, ◌≤◌, ℕ, ◌==◌, Bool, true, false, cond, IsSome, Some, None, List, [], ◌∷◌, ◌++◌, length, length-append, refl, sym, ap, ap₂, ◌∙◌, subst, subst₂, append_assoc, append-nil, arith}
+use Rattle.std.proofs.Common.{◌≡◌, ◌⊎◌, inl, inr, ◌≤◌, ℕ, ◌==◌, Bool, true, false, cond, Some, None, List, [], ◌∷◌, ◌++◌, length, length-append, refl, sym, ap, ◌∙◌, subst, append-nil, arith}
 use Rattle.std.specs.List.{list_any}
-use Rattle.std.specs.Prelude.{MatchOption}
 use Rattle.std.proofs.lemmas.Bool.Decides.{nat_tests}
 use Rattle.std.proofs.lemmas.Option.{same_Some}
 use Rattle.toml_text.specs.Forms.{IsNewline}
 use Rattle.toml_tree.specs.Profiles.{AreLinesOfProfile}
-use Rattle.toml_tree.specs.Spells.{AreLines, EachIs}
+use Rattle.toml_tree.specs.Spells.{AreLines}
 use Rattle.toml_tree.specs.Tree.{Line}
 use Rattle.toml_tree.specs.declared.profile.Profile.{Profile}
-use Rattle.toml_names.specs.declared.model.address.Step.{Step}
 use Rattle.toml_names.specs.declared.model.address.Step.TheVariants.{Name, Index}
 use Rattle.toml_names.specs.declared.mentions.mention.Role.TheVariants.{Tables, Element}
 use Rattle.toml_names.specs.mentions.Mentions.{Kind, Named, a_table, an_array, named}
 use Rattle.toml_names.specs.mentions.Rules.{KeepsRules, IsShort, max_steps}
-use Rattle.toml_names.specs.model.Addresses.{Address, child, element}
+use Rattle.toml_names.specs.model.Addresses.{Address, element}
 use Rattle.toml_names.specs.model.Data.{Kinds, IsDataOf}
 use Rattle.toml_edits.specs.After.{AddsElement, Comes, IsAfter, Moves, an_empty_table, one_empty_table}
 use Rattle.toml_edits.specs.Edits.{new_element}
@@ -24,10 +22,10 @@ use Rattle.toml_working.specs.Standing.{holds, standing}
 use Rattle.toml_editor.specs.Blocks.{element_block, ends_element}
 use Rattle.toml_editor.proofs.written.Clear.{above_apart}
 use Rattle.toml_editor.proofs.written.ElementNamed.{element_has_names, element_leads, element_named, element_names}
-use Rattle.toml_editor.proofs.written.HeaderKept.{AreTables, BothGo, IsHeaderBlock, IsKindAt, absent_goes, array_goes, header_block, header_moves, header_rules, header_short}
-use Rattle.toml_editor.proofs.written.HeaderLeads.{fronts_are_tables}
+use Rattle.toml_editor.proofs.written.HeaderKept.{AreTables, BothGo, IsHeaderBlock, absent_goes, array_goes, header_block, header_moves, header_rules, header_short}
+use Rattle.toml_editor.proofs.written.HeaderLeads.{IsKindAt, fronts_are_tables}
 use Rattle.toml_editor.proofs.written.HeaderPut.{IsHeaderPut}
-use Rattle.toml_editor.proofs.written.Pairwise.{Goes, Has}
+use Rattle.toml_editor.proofs.written.Pairwise.{Has}
 use Rattle.toml_editor.proofs.written.SectionFacts.{IsNextElement}
 use Rattle.toml_editor.proofs.written.SectionFormed.{header_forms, header_of_profile}
 use Rattle.toml_editor.proofs.written.SectionNamed.{IsPutThere, follows, put_there}

@@ -21,21 +21,14 @@ use Rattle.toml_editor.proofs.written.BlockFacts.{each_put, has_old, has_block, 
 use Rattle.toml_editor.proofs.written.Clear.{above_apart}
 use Rattle.toml_editor.proofs.written.Counted.{same_last}
 use Rattle.toml_editor.proofs.written.CountedArrays.{followed_has}
+use Rattle.toml_editor.proofs.written.EmptyAlone.{each_both}
 use Rattle.toml_editor.proofs.written.HeaderCounted.{Enters, enters}
+use Rattle.toml_editor.proofs.written.HeaderLeads.{IsKindAt}
 use Rattle.toml_editor.proofs.written.Pairwise.{PairsAre, Goes, Has, any_of_has, all_of_pairs, from_has, has_of_any, has_weaker, members_self, pairs_append, pairs_back, pairs_between, pairs_front, pairs_of_all}
 use Rattle.toml_editor.proofs.written.Plain.{behind, plain_alike}
 use Rattle.toml_editor.proofs.written.SectionNamed.{HasNames, IsPutThere, end_under}
 use Rattle.toml_editor.proofs.written.SectionRoles.{HasKind, IsLater, IsNotOver, RoleHas, all_later, kinds_are, none_over}
 use Rattle.toml_editor.proofs.written.Unplain.{each_plain, has_plain, plain_has, plain_short, rules_plain, short_plain}
-
--- two things at once
-both : {A : Type 0} (P Q : A → Type 0) (xs : List A) → EachIs P xs → EachIs Q xs → EachIs (λ x. P x × Q x) xs
-both P Q [] h k = tt
-both P Q (x ∷ xs) h k = ((h.0, k.0), both P Q xs h.1 k.1)
-
--- a kind at an address
-abbrev pub IsKindAt : Address → Kind → Named → Type 0
-IsKindAt a k m = (m.address ≡ a) × (m.kind ≡ k)
 
 -- ---- what the header names
 
@@ -176,12 +169,12 @@ pub all_old : (old : List Line) (kinds : Kinds) (q : Address) → IsDataOf (name
 all_old old kinds q is alone =
     each_plain old (IsOld kinds q)
     (each_weaker _ (IsOld kinds q) (λ m h. (h.0, h.1.0, h.1.1)) (named old)
-    (both (λ m. kinds m.address ≡ Some m.kind) (λ m. HasKind m × IsNotOver q m) (named old)
+    (each_both (λ m. kinds m.address ≡ Some m.kind) (λ m. HasKind m × IsNotOver q m) (named old)
     (each_weaker (λ m. Has (λ y. y ≡ m) (named old)) (λ m. kinds m.address ≡ Some m.kind)
     (λ m there. (is m.address m.kind).1
     (any_of_has _ (named old) (has_weaker (λ y. y ≡ m) (IsKindAt m.address m.kind) (λ y e. (ap (λ u. u.address) e, ap (λ u. u.kind) e)) (named old) there)))
     (named old) (members_self (named old)))
-    (both HasKind (IsNotOver q) (named old) (kinds_are old) (none_over q old alone))))
+    (each_both HasKind (IsNotOver q) (named old) (kinds_are old) (none_over q old alone))))
 
 module _ (kinds : Kinds) (q : Address) (xs : List Named) where
   -- it goes behind what was named, and before all of that but an element that comes no later
@@ -277,11 +270,11 @@ header_rules E end a block old new front back kinds q are there keeps is alone t
     let block_back : EachIs (λ b. EachIs (Goes b) ys) block =
     each_weaker (BothGo kinds q (named front)) (λ b. EachIs (Goes b) ys)
     (λ b goes. each_weaker (λ l. IsOld kinds q l × IsLater (named front) l) (Goes b) (λ l h. goes.1 l h.0 h.1) ys
-    (both (IsOld kinds q) (IsLater (named front)) ys (each_back (IsOld kinds q) xs ys olds) laters))
+    (each_both (IsOld kinds q) (IsLater (named front)) ys (each_back (IsOld kinds q) xs ys olds) laters))
     block go in
     let front_rest : EachIs (λ e. EachIs (Goes e) (block ++ ys)) xs =
     each_weaker (λ e. EachIs (Goes e) block × EachIs (Goes e) ys) (λ e. EachIs (Goes e) (block ++ ys)) (λ e h. each_append (Goes e) block ys h.0 h.1) xs
-    (both (λ e. EachIs (Goes e) block) (λ e. EachIs (Goes e) ys) xs front_block (pairs_between Goes xs ys pairs)) in
+    (each_both (λ e. EachIs (Goes e) block) (λ e. EachIs (Goes e) ys) xs front_block (pairs_between Goes xs ys pairs)) in
     (rules_plain new).1
     (subst KeepsRules (sym there.is)
     (all_of_pairs Goes (xs ++ (block ++ ys))

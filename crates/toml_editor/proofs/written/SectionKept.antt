@@ -1,5 +1,5 @@
 -- What is kept by a new section: the table rules, the bound on addresses, the data.
-use Rattle.std.proofs.Common.{◌≡◌, inl, inr, ◌≤◌, ℕ, false, Some, None, List, [], ◌∷◌, ◌++◌, length, refl, sym, ap, ◌∙◌, subst, subst₂, append-nil}
+use Rattle.std.proofs.Common.{◌≡◌, inl, inr, ◌≤◌, ℕ, false, Some, None, List, [], ◌∷◌, ◌++◌, length, refl, sym, ap, ◌∙◌, subst, append-nil}
 use Rattle.std.specs.List.{list_any}
 use Rattle.std.proofs.lemmas.Option.{same_Some}
 use Rattle.toml_tree.specs.Tree.{Line}
@@ -10,15 +10,15 @@ use Rattle.toml_names.specs.mentions.Mentions.{Kind, Named, a_table, named, ends
 use Rattle.toml_names.specs.mentions.Rules.{KeepsRules, IsShort, max_steps}
 use Rattle.toml_names.specs.model.Addresses.{Address, child}
 use Rattle.toml_names.specs.model.Data.{Kinds, IsDataOf}
-use Rattle.toml_edits.specs.After.{Comes, IsAfter, an_empty_table}
+use Rattle.toml_edits.specs.After.{IsAfter, an_empty_table}
 use Rattle.toml_edits.specs.Edits.{new_section}
 use Rattle.toml_layout.specs.declared.tree.Brackets.TheVariants.{One}
 use Rattle.toml_working.specs.Headers.{names_of}
 use Rattle.toml_working.specs.Standing.{holds, standing}
 use Rattle.toml_editor.specs.Blocks.{section_block}
 use Rattle.toml_editor.proofs.written.Counted.{last_step}
-use Rattle.toml_editor.proofs.written.HeaderKept.{AreTables, IsAtEnd, IsHeaderBlock, IsKindAt, absent_goes, header_block, header_moves, header_rules, header_short}
-use Rattle.toml_editor.proofs.written.HeaderLeads.{fronts_are_tables}
+use Rattle.toml_editor.proofs.written.HeaderKept.{IsHeaderBlock, absent_goes, header_block, header_moves, header_rules, header_short}
+use Rattle.toml_editor.proofs.written.HeaderLeads.{IsKindAt, fronts_are_tables}
 use Rattle.toml_editor.proofs.written.HeaderPut.{IsSectionPut}
 use Rattle.toml_editor.proofs.written.Pairwise.{Has}
 use Rattle.toml_editor.proofs.written.SectionNamed.{IsPutThere, follows, header_names_some, put_there, section_leads, section_named, section_names}

@@ -21,7 +21,7 @@ use Rattle.toml_editor.proofs.written.EmptyAlone.{first_under}
 use Rattle.toml_editor.proofs.written.HeaderCounted.{Enters, enters, same_behind}
 use Rattle.toml_editor.proofs.written.HeaderLeads.{key_again}
 use Rattle.toml_editor.proofs.written.HeaderPut.{IsHeaderPut, IsPutBefore, IsSectionPut, ended}
-use Rattle.toml_editor.proofs.written.Plain.{behind, plain_alike, plain_is}
+use Rattle.toml_editor.proofs.written.Plain.{behind, plain_alike, plain_is, plain_parts}
 
 -- ---- the key
 
@@ -141,19 +141,6 @@ module _ (xs : List Named) (end : Address → List Named) where
           ∙ sym (append_assoc at (Name n ∷ []) (Index i ∷ steps)) ∙ sym (append_assoc (child at n) (Index i ∷ []) steps)))
 
 -- ---- the lines
-
--- what lines name, and lines behind them
-pub behind_parts : (a b : List Line) (ys : List Named) → behind ys (a ++ b) ≡ behind ys a ++ behind (ys ++ behind ys a) b
-behind_parts [] b ys = ap (λ r. behind r b) (sym (append-nil ys))
-behind_parts (l ∷ a) b ys =
-    let new = named_by ys 0 l.expr in
-    ap (λ r. new ++ r) (behind_parts a b (ys ++ new))
-    ∙ sym (append_assoc new (behind (ys ++ new) a) (behind ((ys ++ new) ++ behind (ys ++ new) a) b))
-    ∙ ap (λ r. (new ++ behind (ys ++ new) a) ++ behind r b) (append_assoc ys new (behind (ys ++ new) a))
-
-pub plain_parts : (a b : List Line) → named_plain (a ++ b) ≡ named_plain a ++ behind (named_plain a) b
-plain_parts a b =
-    plain_is (a ++ b) ∙ ap (λ r. root ∷ r) (behind_parts a b (root ∷ [])) ∙ ap (λ r. r ++ behind r b) (sym (plain_is a))
 
 -- a line's newline names nothing
 ended_names : (style : List ℕ) (last : Line) (ls : List Line) (before : List Line) (xs : List Named)
