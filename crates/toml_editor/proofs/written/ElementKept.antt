@@ -52,7 +52,8 @@ module _ (q : Address) (i : ℕ) (style : List ℕ) (old new : List Line) (put :
   there = subst (λ ms. IsPutThere ms put.front put.back old new) (element_named q i style old new put) (put_there Two (element q i) style old new put)
 
 -- what a name follows on the way to the array is a table
-passes_tables : (q : Address) (i : ℕ) (lines : List Line) (kinds : Kinds) → KeepsRules (named lines) → IsDataOf (named lines) kinds → IsNextElement q i kinds → AreTables q kinds
+passes_tables : (q : Address) (i : ℕ) (lines : List Line) (kinds : Kinds) → KeepsRules (named lines) → IsDataOf (named lines) kinds → IsNextElement q i kinds
+    → AreTables q kinds
 passes_tables q i lines kinds keeps is next r rest n at =
     let (u, name, own, table) = next.table in
     fronts_are_tables lines kinds keeps is u name table r rest n (sym own ∙ at)
@@ -61,8 +62,8 @@ passes_tables q i lines kinds keeps is next r rest n at =
 pub element_rules : (q : Address) (i : ℕ) (style : List ℕ) (old new : List Line) (kinds : Kinds) → IsHeaderPut Two (element q i) style old new
     → KeepsRules (named old) → IsDataOf (named old) kinds → IsNextElement q i kinds → list_any (holds q) (standing old) ≡ false → KeepsRules (named new)
 element_rules q i style old new kinds put keeps is next alone =
-    header_rules (IsElementEnd q i) (ends_element i) q (element_block q i) old new put.front put.back kinds q (block q i style old new put) (there q i style old new put) keeps is
-    alone (passes_tables q i old kinds keeps is next) (λ r rest n at. (Name n ∷ rest, at)) end_goes
+    header_rules (IsElementEnd q i) (ends_element i) q (element_block q i) old new put.front put.back kinds q (block q i style old new put)
+    (there q i style old new put) keeps is alone (passes_tables q i old kinds keeps is next) (λ r rest n at. (Name n ∷ rest, at)) end_goes
   where
     end_goes : (m : Named) → IsElementEnd q i m → BothGo kinds q (named put.front) m
     end_goes m (inr at) = absent_goes kinds q (named put.front) m (ap kinds at.0 ∙ next.free)
@@ -75,8 +76,8 @@ element_rules q i style old new kinds put keeps is next alone =
 pub element_short : (q : Address) (i : ℕ) (style : List ℕ) (old new : List Line) → IsHeaderPut Two (element q i) style old new
     → IsShort (named old) → length (element q i) ≤ max_steps → IsShort (named new)
 element_short q i style old new put is low =
-    header_short (IsElementEnd q i) (ends_element i) q (named put.front) (element_block q i) old new (block q i style old new put) (element_names q i style old new put) is
-    array_low ends_low
+    header_short (IsElementEnd q i) (ends_element i) q (named put.front) (element_block q i) old new (block q i style old new put)
+    (element_names q i style old new put) is array_low ends_low
   where
     array_low : length q ≤ max_steps
     array_low = let long = length-append q (Index i ∷ []) in omega (arith, low, long)
@@ -130,7 +131,8 @@ element_data profile q i style old new kinds after put keeps is next is' = (q, i
         placed (s ∷ r) k have = cc
 
 -- the new lines are in the forms
-pub element_forms : (q : Address) (i : ℕ) (style : List ℕ) (old new : List Line) → IsHeaderPut Two (element q i) style old new → AreLines old → IsNewline style → AreLines new
+pub element_forms : (q : Address) (i : ℕ) (style : List ℕ) (old new : List Line) → IsHeaderPut Two (element q i) style old new
+    → AreLines old → IsNewline style → AreLines new
 element_forms q i = header_forms Two (element q i)
 
 -- and of each profile of which the old ones are

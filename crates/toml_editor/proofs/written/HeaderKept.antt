@@ -112,7 +112,8 @@ module _ (E : Named → Type 0) (end : Address → List Named) (xs : List Named)
 
 -- The bound on addresses is kept, where what stands at the end keeps it.
 pub header_short : (E : Named → Type 0) (end : Address → List Named) (a : Address) (xs block : List Named) (old new : List Line) → IsHeaderBlock E end a xs block
-    → IsPut (named_plain old) block (named_plain new) → IsShort (named old) → length a ≤ max_steps → ((m : Named) → E m → length m.address ≤ max_steps) → IsShort (named new)
+    → IsPut (named_plain old) block (named_plain new) → IsShort (named old) → length a ≤ max_steps → ((m : Named) → E m → length m.address ≤ max_steps)
+    → IsShort (named new)
 header_short E end a xs block old new is puts short low ends =
     plain_short new
     (each_put (named_plain old) block (named_plain new) puts _ (short_plain old short)
@@ -165,7 +166,8 @@ header_moves E end a xs block old new base v kinds after are puts is is' tables 
 abbrev pub IsOld : Kinds → Address → Named → Type 0
 IsOld kinds q m = (kinds m.address ≡ Some m.kind) × HasKind m × IsNotOver q m
 
-pub all_old : (old : List Line) (kinds : Kinds) (q : Address) → IsDataOf (named old) kinds → list_any (holds q) (standing old) ≡ false → EachIs (IsOld kinds q) (named_plain old)
+all_old : (old : List Line) (kinds : Kinds) (q : Address) → IsDataOf (named old) kinds → list_any (holds q) (standing old) ≡ false
+    → EachIs (IsOld kinds q) (named_plain old)
 all_old old kinds q is alone =
     each_plain old (IsOld kinds q)
     (each_weaker _ (IsOld kinds q) (λ m h. (h.0, h.1.0, h.1.1)) (named old)
@@ -282,7 +284,9 @@ header_rules E end a block old new front back kinds q are there keeps is alone t
   where
     later_unplain : (m : Named) → IsLater (named_plain front) m → IsLater (named front) m
     later_unplain m later is =
-        let (c, i, at, low) = later is in let count = (plain_alike (named front)).counts c in (c, i, at, (let e : count_tables (named front) c ≤ i = omega (arith, count, low) in e))
+        let (c, i, at, low) = later is in
+        let count = (plain_alike (named front)).counts c in
+        let lower : count_tables (named front) c ≤ i = omega (arith, count, low) in (c, i, at, lower)
 
     member_goes : (m : Named) → IsOfHeader E a (named front) m → BothGo kinds q (named front) m
     member_goes m (inl at) = ends m at

@@ -46,8 +46,9 @@ pub section_rules : (q : Address) (name style : List ℕ) (old new : List Line) 
     → list_any (holds q) (standing old) ≡ false → KeepsRules (named new)
 section_rules q name style old new kinds put keeps is table none alone =
     let p = child q name in
-    header_rules (IsTableEnd p) (ends_table 0) p (section_block p) old new put.front put.back kinds q (block q name style old new put) (there q name style old new put) keeps is
-    alone (fronts_are_tables old kinds keeps is q name table) over (λ m at. absent_goes kinds q (named put.front) m (ap kinds at.0 ∙ none))
+    header_rules (IsTableEnd p) (ends_table 0) p (section_block p) old new put.front put.back kinds q (block q name style old new put)
+    (there q name style old new put) keeps is alone (fronts_are_tables old kinds keeps is q name table) over
+    (λ m at. absent_goes kinds q (named put.front) m (ap kinds at.0 ∙ none))
   where
     -- what a name follows on the way is the table, or above it
     over : (r rest : Address) (n : List ℕ) → child q name ≡ r ++ Name n ∷ rest → (s : Address) × (q ≡ r ++ s)
@@ -61,8 +62,8 @@ pub section_short : (q : Address) (name style : List ℕ) (old new : List Line) 
     → IsShort (named old) → length (child q name) ≤ max_steps → IsShort (named new)
 section_short q name style old new put is low =
     let p = child q name in
-    header_short (IsTableEnd p) (ends_table 0) p (named put.front) (section_block p) old new (block q name style old new put) (section_names q name style old new put) is low
-    (λ m at. subst (λ a. length a ≤ max_steps) (sym at.0) low)
+    header_short (IsTableEnd p) (ends_table 0) p (named put.front) (section_block p) old new (block q name style old new put)
+    (section_names q name style old new put) is low (λ m at. subst (λ a. length a ≤ max_steps) (sym at.0) low)
 
 -- the new lines have the data that the edit makes of those of the old
 pub section_data : (profile : Profile) (q : Address) (name style : List ℕ) (old new : List Line) (kinds after : Kinds) → IsSectionPut (child q name) style old new
