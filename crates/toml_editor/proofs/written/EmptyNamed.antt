@@ -1,5 +1,5 @@
 -- What is named where the line of a value comes to stand for the table right above it.
-use Rattle.std.proofs.Common.{◌≡◌, ◌∙◌, ℕ, ◌+◌, false, List, [], ◌∷◌, ◌++◌, length, refl, sym, ap, ap₂, subst, subst₂, append_assoc, append-nil}
+use Rattle.std.proofs.Common.{◌≡◌, ◌∙◌, ℕ, ◌+◌, false, List, [], ◌∷◌, ◌++◌, length, refl, sym, ap, ap₂, subst, subst₂, append_assoc}
 use Rattle.std.specs.List.{list_any}
 use Rattle.toml_tree.specs.Spells.{EachIs}
 use Rattle.toml_tree.specs.Tree.{Piece, Blank, KeyVal, Value, Line}
