@@ -1,20 +1,18 @@
 -- What is kept by a new element of an array of tables: the table rules, the bound on addresses, the data, the forms, the profile.
-use Rattle.std.proofs.Common.{◌≡◌, ◌⊎◌, inl, inr, ◌<◌, ◌≤◌, ℕ, ◌==◌, Bool, true, false, cond, IsSome, Some, None, List, [], ◌∷◌, ◌++◌, length, length-append, refl, sym, ap, ap₂, ◌∙◌, subst, subst₂, append_assoc, append-nil, arith}
+use Rattle.std.proofs.Common.{◌≡◌, ◌⊎◌, inl, inr, ◌≤◌, ℕ, ◌==◌, Bool, true, false, cond, Some, None, List, [], ◌∷◌, ◌++◌, length, length-append, refl, sym, ap, ◌∙◌, subst, append-nil, arith}
 use Rattle.std.specs.List.{list_any}
-use Rattle.std.specs.Prelude.{MatchOption}
 use Rattle.std.proofs.lemmas.Bool.Decides.{nat_tests}
 use Rattle.std.proofs.lemmas.Option.{same_Some}
 use Rattle.toml_text.specs.Forms.{IsNewline}
 use Rattle.toml_tree.specs.Profiles.{AreLinesOfProfile}
-use Rattle.toml_tree.specs.Spells.{AreLines, EachIs}
+use Rattle.toml_tree.specs.Spells.{AreLines}
 use Rattle.toml_tree.specs.Tree.{Line}
 use Rattle.toml_tree.specs.declared.profile.Profile.{Profile}
-use Rattle.toml_names.specs.declared.model.address.Step.{Step}
 use Rattle.toml_names.specs.declared.model.address.Step.TheVariants.{Name, Index}
 use Rattle.toml_names.specs.declared.mentions.mention.Role.TheVariants.{Tables, Element}
 use Rattle.toml_names.specs.mentions.Mentions.{Kind, Named, a_table, an_array, named}
 use Rattle.toml_names.specs.mentions.Rules.{KeepsRules, IsShort, max_steps}
-use Rattle.toml_names.specs.model.Addresses.{Address, child, element}
+use Rattle.toml_names.specs.model.Addresses.{Address, element}
 use Rattle.toml_names.specs.model.Data.{Kinds, IsDataOf}
 use Rattle.toml_edits.specs.After.{AddsElement, Comes, IsAfter, Moves, an_empty_table, one_empty_table}
 use Rattle.toml_edits.specs.Edits.{new_element}
@@ -24,10 +22,10 @@ use Rattle.toml_working.specs.Standing.{holds, standing}
 use Rattle.toml_editor.specs.Blocks.{element_block, ends_element}
 use Rattle.toml_editor.proofs.written.Clear.{above_apart}
 use Rattle.toml_editor.proofs.written.ElementNamed.{element_has_names, element_leads, element_named, element_names}
-use Rattle.toml_editor.proofs.written.HeaderKept.{AreTables, BothGo, IsHeaderBlock, IsKindAt, absent_goes, array_goes, header_block, header_moves, header_rules, header_short}
-use Rattle.toml_editor.proofs.written.HeaderLeads.{fronts_are_tables}
+use Rattle.toml_editor.proofs.written.HeaderKept.{AreTables, BothGo, IsHeaderBlock, absent_goes, array_goes, header_block, header_moves, header_rules, header_short}
+use Rattle.toml_editor.proofs.written.HeaderLeads.{IsKindAt, fronts_are_tables}
 use Rattle.toml_editor.proofs.written.HeaderPut.{IsHeaderPut}
-use Rattle.toml_editor.proofs.written.Pairwise.{Goes, Has}
+use Rattle.toml_editor.proofs.written.Pairwise.{Has}
 use Rattle.toml_editor.proofs.written.SectionFacts.{IsNextElement}
 use Rattle.toml_editor.proofs.written.SectionFormed.{header_forms, header_of_profile}
 use Rattle.toml_editor.proofs.written.SectionNamed.{IsPutThere, follows, put_there}
@@ -54,7 +52,8 @@ module _ (q : Address) (i : ℕ) (style : List ℕ) (old new : List Line) (put :
   there = subst (λ ms. IsPutThere ms put.front put.back old new) (element_named q i style old new put) (put_there Two (element q i) style old new put)
 
 -- what a name follows on the way to the array is a table
-passes_tables : (q : Address) (i : ℕ) (lines : List Line) (kinds : Kinds) → KeepsRules (named lines) → IsDataOf (named lines) kinds → IsNextElement q i kinds → AreTables q kinds
+passes_tables : (q : Address) (i : ℕ) (lines : List Line) (kinds : Kinds) → KeepsRules (named lines) → IsDataOf (named lines) kinds → IsNextElement q i kinds
+    → AreTables q kinds
 passes_tables q i lines kinds keeps is next r rest n at =
     let (u, name, own, table) = next.table in
     fronts_are_tables lines kinds keeps is u name table r rest n (sym own ∙ at)
@@ -63,8 +62,8 @@ passes_tables q i lines kinds keeps is next r rest n at =
 pub element_rules : (q : Address) (i : ℕ) (style : List ℕ) (old new : List Line) (kinds : Kinds) → IsHeaderPut Two (element q i) style old new
     → KeepsRules (named old) → IsDataOf (named old) kinds → IsNextElement q i kinds → list_any (holds q) (standing old) ≡ false → KeepsRules (named new)
 element_rules q i style old new kinds put keeps is next alone =
-    header_rules (IsElementEnd q i) (ends_element i) q (element_block q i) old new put.front put.back kinds q (block q i style old new put) (there q i style old new put) keeps is
-    alone (passes_tables q i old kinds keeps is next) (λ r rest n at. (Name n ∷ rest, at)) end_goes
+    header_rules (IsElementEnd q i) (ends_element i) q (element_block q i) old new put.front put.back kinds q (block q i style old new put)
+    (there q i style old new put) keeps is alone (passes_tables q i old kinds keeps is next) (λ r rest n at. (Name n ∷ rest, at)) end_goes
   where
     end_goes : (m : Named) → IsElementEnd q i m → BothGo kinds q (named put.front) m
     end_goes m (inr at) = absent_goes kinds q (named put.front) m (ap kinds at.0 ∙ next.free)
@@ -77,8 +76,8 @@ element_rules q i style old new kinds put keeps is next alone =
 pub element_short : (q : Address) (i : ℕ) (style : List ℕ) (old new : List Line) → IsHeaderPut Two (element q i) style old new
     → IsShort (named old) → length (element q i) ≤ max_steps → IsShort (named new)
 element_short q i style old new put is low =
-    header_short (IsElementEnd q i) (ends_element i) q (named put.front) (element_block q i) old new (block q i style old new put) (element_names q i style old new put) is
-    array_low ends_low
+    header_short (IsElementEnd q i) (ends_element i) q (named put.front) (element_block q i) old new (block q i style old new put)
+    (element_names q i style old new put) is array_low ends_low
   where
     array_low : length q ≤ max_steps
     array_low = let long = length-append q (Index i ∷ []) in omega (arith, low, long)
@@ -132,7 +131,8 @@ element_data profile q i style old new kinds after put keeps is next is' = (q, i
         placed (s ∷ r) k have = cc
 
 -- the new lines are in the forms
-pub element_forms : (q : Address) (i : ℕ) (style : List ℕ) (old new : List Line) → IsHeaderPut Two (element q i) style old new → AreLines old → IsNewline style → AreLines new
+pub element_forms : (q : Address) (i : ℕ) (style : List ℕ) (old new : List Line) → IsHeaderPut Two (element q i) style old new
+    → AreLines old → IsNewline style → AreLines new
 element_forms q i = header_forms Two (element q i)
 
 -- and of each profile of which the old ones are

@@ -40,7 +40,7 @@ fronts_deep s (n ∷ m ∷ more) =
           (fronts 0 (child s n) (m ∷ more)) (fronts_deep (child s n) (m ∷ more)),
     )
 
-each_both : {A : Type 0} (P Q : A → Type 0) (xs : List A) → EachIs P xs → EachIs Q xs → EachIs (λ x. P x × Q x) xs
+pub each_both : {A : Type 0} (P Q : A → Type 0) (xs : List A) → EachIs P xs → EachIs Q xs → EachIs (λ x. P x × Q x) xs
 each_both P Q [] h k = tt
 each_both P Q (x ∷ xs) h k = ((h.0, k.0), each_both P Q xs h.1 k.1)
 

@@ -4,7 +4,6 @@ use Rattle.std.specs.List.{list_any}
 use Rattle.std.proofs.lemmas.Bool.{or_parts}
 use Rattle.std.proofs.lemmas.Bool.Decides.{nat_tests}
 use Rattle.std.proofs.lemmas.Option.{same_Some}
-use Rattle.toml_tree.specs.Tree as tree
 use Rattle.toml_tree.specs.Tree.{Line}
 use Rattle.toml_names.specs.mentions.Keys.{key_names, part_name, rest_names}
 use Rattle.toml_names.specs.mentions.Mentions.{Named, count_tables, entered, named, named_by}
@@ -15,7 +14,7 @@ use Rattle.toml_layout.specs.declared.tree.Brackets.{Brackets}
 use Rattle.toml_layout.specs.declared.tree.Brackets.TheVariants.{One, Two}
 use Rattle.toml_working.specs.Heading.{header_expr, key_named}
 use Rattle.toml_working.specs.Headers.{names_of}
-use Rattle.toml_working.specs.Standing.{is_below, line_stands, standing_from}
+use Rattle.toml_working.specs.Standing.{Standing, is_below, line_stands, standing_from}
 use Rattle.toml_editor.specs.Blocks.{named_plain}
 use Rattle.toml_editor.proofs.written.Alike.{alike_self}
 use Rattle.toml_editor.proofs.written.Clear.{same_is}
@@ -66,35 +65,39 @@ behind_same (l ∷ ls) xs ys n sections same =
 
 -- ---- behind a new header line
 
--- The header of a table changes no count. That of an element changes the count of its array alone, at or below which no line behind stands.
-pub header_counted : (brackets : Brackets) (p : Address) (ws : List ℕ) (front back : List Line) → own_address (named front) (header_expr brackets p ws) ≡ Some p
-    → IsApart brackets p front back → (line : ℕ)
-    → AreCountedBut (AreUnseen (standing_from (named front) (length front) back)) (named front) (named front ++ named_by (named front) line (header_expr brackets p ws))
-header_counted One p ws front back leads apart line a =
-    let all = count-append (named front) (named_by (named front) line (header_expr One p ws)) a in
-    let k = key_named (names_of p) in
-    let none = count_table (named front) line a (part_name k.first) (rest_names k.rest) in
+-- none of what stands on lines is at the array of a new element, or below it
+abbrev pub AreApart : Brackets → Address → List Standing → Type 0
+AreApart One p ss = Unit {0}
+AreApart Two p ss = (q : Address) (i : ℕ) → p ≡ element q i → list_any (is_below q) ss ≡ false
+
+-- The header of a table changes no count, that of an element the count of its array alone.
+pub header_counted : (brackets : Brackets) (p : Address) (ws : List ℕ) (xs : List Named) (line : ℕ) (ss : List Standing)
+    → own_address xs (header_expr brackets p ws) ≡ Some p → AreApart brackets p ss
+    → AreCountedBut (AreUnseen ss) xs (xs ++ named_by xs line (header_expr brackets p ws))
+header_counted One p ws xs line ss leads apart a =
+    let all = count-append xs (named_by xs line (header_expr One p ws)) a in
+    let key = key_named (names_of p) in
+    let none = count_table xs line a (part_name key.first) (rest_names key.rest) in
     inr (omega (arith, all, none))
-header_counted Two p ws front back leads apart line a = by (same_address at a) refl
+header_counted Two p ws xs line ss leads apart a = by (same_address at a) refl
   where
-    k : tree.Key
-    k = key_named (names_of p)
-
-    xs : List Named
-    xs = named front
-
     at : Address
-    at = header_end xs [] (key_names k)
+    at = header_end xs [] (key_names (key_named (names_of p)))
 
-    by : (b : Bool) → same_address at a ≡ b
-        → AreUnseen (standing_from xs (length front) back) a ⊎ (count_tables xs a ≡ count_tables (xs ++ named_by xs line (header_expr Two p ws)) a)
+    by : (b : Bool) → same_address at a ≡ b → AreUnseen ss a ⊎ (count_tables xs a ≡ count_tables (xs ++ named_by xs line (header_expr Two p ws)) a)
     by true same =
         inl (apart a (count_tables xs at)
         (sym (same_Some (element at (count_tables xs at)) p leads) ∙ ap (λ (x : Address). element x (count_tables xs at)) (same_is at a same)))
     by false differs =
         let all = count-append xs (named_by xs line (header_expr Two p ws)) a in
-        let none = count_array xs line a (part_name k.first) (rest_names k.rest) ∙ ap one_if differs in
+        let key = key_named (names_of p) in
+        let none = count_array xs line a (part_name key.first) (rest_names key.rest) ∙ ap one_if differs in
         inr (omega (arith, all, none))
+
+pub back_apart : (brackets : Brackets) (p : Address) (front back : List Line) → IsApart brackets p front back
+    → AreApart brackets p (standing_from (named front) (length front) back)
+back_apart One p front back apart = tt
+back_apart Two p front back apart = apart
 
 -- So lines behind it name the same as without it.
 pub same_behind : (brackets : Brackets) (p : Address) (style : List ℕ) (old new : List Line) → (put : IsHeaderPut brackets p style old new)
@@ -104,5 +107,6 @@ same_behind brackets p style old new put =
     let plain = named_plain put.front in
     let e = header_expr brackets p put.ws in
     sym (behind_alike put.back (xs ++ named_by xs 0 e) (plain ++ named_by plain 0 e) (next_alike xs plain 0 e (plain_alike xs)))
-    ∙ sym (behind_same put.back xs (xs ++ named_by xs 0 e) (length put.front) (inr put.unkeyed) (header_counted brackets p put.ws put.front put.back put.leads put.apart 0))
+    ∙ sym (behind_same put.back xs (xs ++ named_by xs 0 e) (length put.front) (inr put.unkeyed)
+    (header_counted brackets p put.ws xs 0 _ put.leads (back_apart brackets p put.front put.back put.apart)))
     ∙ behind_alike put.back xs plain (plain_alike xs)

@@ -21,21 +21,14 @@ use Rattle.toml_editor.proofs.written.BlockFacts.{each_put, has_old, has_block, 
 use Rattle.toml_editor.proofs.written.Clear.{above_apart}
 use Rattle.toml_editor.proofs.written.Counted.{same_last}
 use Rattle.toml_editor.proofs.written.CountedArrays.{followed_has}
+use Rattle.toml_editor.proofs.written.EmptyAlone.{each_both}
 use Rattle.toml_editor.proofs.written.HeaderCounted.{Enters, enters}
+use Rattle.toml_editor.proofs.written.HeaderLeads.{IsKindAt}
 use Rattle.toml_editor.proofs.written.Pairwise.{PairsAre, Goes, Has, any_of_has, all_of_pairs, from_has, has_of_any, has_weaker, members_self, pairs_append, pairs_back, pairs_between, pairs_front, pairs_of_all}
 use Rattle.toml_editor.proofs.written.Plain.{behind, plain_alike}
 use Rattle.toml_editor.proofs.written.SectionNamed.{HasNames, IsPutThere, end_under}
 use Rattle.toml_editor.proofs.written.SectionRoles.{HasKind, IsLater, IsNotOver, RoleHas, all_later, kinds_are, none_over}
 use Rattle.toml_editor.proofs.written.Unplain.{each_plain, has_plain, plain_has, plain_short, rules_plain, short_plain}
-
--- two things at once
-both : {A : Type 0} (P Q : A → Type 0) (xs : List A) → EachIs P xs → EachIs Q xs → EachIs (λ x. P x × Q x) xs
-both P Q [] h k = tt
-both P Q (x ∷ xs) h k = ((h.0, k.0), both P Q xs h.1 k.1)
-
--- a kind at an address
-abbrev pub IsKindAt : Address → Kind → Named → Type 0
-IsKindAt a k m = (m.address ≡ a) × (m.kind ≡ k)
 
 -- ---- what the header names
 
@@ -119,7 +112,8 @@ module _ (E : Named → Type 0) (end : Address → List Named) (xs : List Named)
 
 -- The bound on addresses is kept, where what stands at the end keeps it.
 pub header_short : (E : Named → Type 0) (end : Address → List Named) (a : Address) (xs block : List Named) (old new : List Line) → IsHeaderBlock E end a xs block
-    → IsPut (named_plain old) block (named_plain new) → IsShort (named old) → length a ≤ max_steps → ((m : Named) → E m → length m.address ≤ max_steps) → IsShort (named new)
+    → IsPut (named_plain old) block (named_plain new) → IsShort (named old) → length a ≤ max_steps → ((m : Named) → E m → length m.address ≤ max_steps)
+    → IsShort (named new)
 header_short E end a xs block old new is puts short low ends =
     plain_short new
     (each_put (named_plain old) block (named_plain new) puts _ (short_plain old short)
@@ -172,16 +166,17 @@ header_moves E end a xs block old new base v kinds after are puts is is' tables 
 abbrev pub IsOld : Kinds → Address → Named → Type 0
 IsOld kinds q m = (kinds m.address ≡ Some m.kind) × HasKind m × IsNotOver q m
 
-pub all_old : (old : List Line) (kinds : Kinds) (q : Address) → IsDataOf (named old) kinds → list_any (holds q) (standing old) ≡ false → EachIs (IsOld kinds q) (named_plain old)
+all_old : (old : List Line) (kinds : Kinds) (q : Address) → IsDataOf (named old) kinds → list_any (holds q) (standing old) ≡ false
+    → EachIs (IsOld kinds q) (named_plain old)
 all_old old kinds q is alone =
     each_plain old (IsOld kinds q)
     (each_weaker _ (IsOld kinds q) (λ m h. (h.0, h.1.0, h.1.1)) (named old)
-    (both (λ m. kinds m.address ≡ Some m.kind) (λ m. HasKind m × IsNotOver q m) (named old)
+    (each_both (λ m. kinds m.address ≡ Some m.kind) (λ m. HasKind m × IsNotOver q m) (named old)
     (each_weaker (λ m. Has (λ y. y ≡ m) (named old)) (λ m. kinds m.address ≡ Some m.kind)
     (λ m there. (is m.address m.kind).1
     (any_of_has _ (named old) (has_weaker (λ y. y ≡ m) (IsKindAt m.address m.kind) (λ y e. (ap (λ u. u.address) e, ap (λ u. u.kind) e)) (named old) there)))
     (named old) (members_self (named old)))
-    (both HasKind (IsNotOver q) (named old) (kinds_are old) (none_over q old alone))))
+    (each_both HasKind (IsNotOver q) (named old) (kinds_are old) (none_over q old alone))))
 
 module _ (kinds : Kinds) (q : Address) (xs : List Named) where
   -- it goes behind what was named, and before all of that but an element that comes no later
@@ -277,11 +272,11 @@ header_rules E end a block old new front back kinds q are there keeps is alone t
     let block_back : EachIs (λ b. EachIs (Goes b) ys) block =
     each_weaker (BothGo kinds q (named front)) (λ b. EachIs (Goes b) ys)
     (λ b goes. each_weaker (λ l. IsOld kinds q l × IsLater (named front) l) (Goes b) (λ l h. goes.1 l h.0 h.1) ys
-    (both (IsOld kinds q) (IsLater (named front)) ys (each_back (IsOld kinds q) xs ys olds) laters))
+    (each_both (IsOld kinds q) (IsLater (named front)) ys (each_back (IsOld kinds q) xs ys olds) laters))
     block go in
     let front_rest : EachIs (λ e. EachIs (Goes e) (block ++ ys)) xs =
     each_weaker (λ e. EachIs (Goes e) block × EachIs (Goes e) ys) (λ e. EachIs (Goes e) (block ++ ys)) (λ e h. each_append (Goes e) block ys h.0 h.1) xs
-    (both (λ e. EachIs (Goes e) block) (λ e. EachIs (Goes e) ys) xs front_block (pairs_between Goes xs ys pairs)) in
+    (each_both (λ e. EachIs (Goes e) block) (λ e. EachIs (Goes e) ys) xs front_block (pairs_between Goes xs ys pairs)) in
     (rules_plain new).1
     (subst KeepsRules (sym there.is)
     (all_of_pairs Goes (xs ++ (block ++ ys))
@@ -289,7 +284,9 @@ header_rules E end a block old new front back kinds q are there keeps is alone t
   where
     later_unplain : (m : Named) → IsLater (named_plain front) m → IsLater (named front) m
     later_unplain m later is =
-        let (c, i, at, low) = later is in let count = (plain_alike (named front)).counts c in (c, i, at, (let e : count_tables (named front) c ≤ i = omega (arith, count, low) in e))
+        let (c, i, at, low) = later is in
+        let count = (plain_alike (named front)).counts c in
+        let lower : count_tables (named front) c ≤ i = omega (arith, count, low) in (c, i, at, lower)
 
     member_goes : (m : Named) → IsOfHeader E a (named front) m → BothGo kinds q (named front) m
     member_goes m (inl at) = ends m at

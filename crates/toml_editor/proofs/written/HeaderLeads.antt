@@ -24,7 +24,7 @@ use Rattle.toml_editor.proofs.written.Pairwise.{Has, any_of_has, has_append_left
 
 -- ---- a name is put in a table
 
-abbrev IsKindAt : Address → Kind → Named → Type 0
+abbrev pub IsKindAt : Address → Kind → Named → Type 0
 IsKindAt at k m = (m.address ≡ at) × (m.kind ≡ k)
 
 abbrev IsAt : Address → Named → Type 0

@@ -87,7 +87,8 @@ header_plain b p style old new put is = elim put.put [
     header brackets.One = tt
     header brackets.Two = tt
 
-    behind : (before : List Line) (last : Line) (rest : List Line) → EachIs IsPlain rest → EachIs IsPlain (before ++ last ∷ []) → EachIs IsPlain (before ++ ended style last ∷ rest)
+    behind : (before : List Line) (last : Line) (rest : List Line) → EachIs IsPlain rest → EachIs IsPlain (before ++ last ∷ [])
+        → EachIs IsPlain (before ++ ended style last ∷ rest)
     behind before last rest are parts =
         each_append IsPlain before (ended style last ∷ rest) (each_front IsPlain before (last ∷ []) parts) ((each_back IsPlain before (last ∷ []) parts).0, are)
 

@@ -1,5 +1,5 @@
 -- What is kept by a new section: the table rules, the bound on addresses, the data.
-use Rattle.std.proofs.Common.{◌≡◌, inl, inr, ◌≤◌, ℕ, false, Some, None, List, [], ◌∷◌, ◌++◌, length, refl, sym, ap, ◌∙◌, subst, subst₂, append-nil}
+use Rattle.std.proofs.Common.{◌≡◌, inl, inr, ◌≤◌, ℕ, false, Some, None, List, [], ◌∷◌, ◌++◌, length, refl, sym, ap, ◌∙◌, subst, append-nil}
 use Rattle.std.specs.List.{list_any}
 use Rattle.std.proofs.lemmas.Option.{same_Some}
 use Rattle.toml_tree.specs.Tree.{Line}
@@ -10,15 +10,15 @@ use Rattle.toml_names.specs.mentions.Mentions.{Kind, Named, a_table, named, ends
 use Rattle.toml_names.specs.mentions.Rules.{KeepsRules, IsShort, max_steps}
 use Rattle.toml_names.specs.model.Addresses.{Address, child}
 use Rattle.toml_names.specs.model.Data.{Kinds, IsDataOf}
-use Rattle.toml_edits.specs.After.{Comes, IsAfter, an_empty_table}
+use Rattle.toml_edits.specs.After.{IsAfter, an_empty_table}
 use Rattle.toml_edits.specs.Edits.{new_section}
 use Rattle.toml_layout.specs.declared.tree.Brackets.TheVariants.{One}
 use Rattle.toml_working.specs.Headers.{names_of}
 use Rattle.toml_working.specs.Standing.{holds, standing}
 use Rattle.toml_editor.specs.Blocks.{section_block}
 use Rattle.toml_editor.proofs.written.Counted.{last_step}
-use Rattle.toml_editor.proofs.written.HeaderKept.{AreTables, IsAtEnd, IsHeaderBlock, IsKindAt, absent_goes, header_block, header_moves, header_rules, header_short}
-use Rattle.toml_editor.proofs.written.HeaderLeads.{fronts_are_tables}
+use Rattle.toml_editor.proofs.written.HeaderKept.{IsHeaderBlock, absent_goes, header_block, header_moves, header_rules, header_short}
+use Rattle.toml_editor.proofs.written.HeaderLeads.{IsKindAt, fronts_are_tables}
 use Rattle.toml_editor.proofs.written.HeaderPut.{IsSectionPut}
 use Rattle.toml_editor.proofs.written.Pairwise.{Has}
 use Rattle.toml_editor.proofs.written.SectionNamed.{IsPutThere, follows, header_names_some, put_there, section_leads, section_named, section_names}
@@ -46,8 +46,9 @@ pub section_rules : (q : Address) (name style : List ℕ) (old new : List Line) 
     → list_any (holds q) (standing old) ≡ false → KeepsRules (named new)
 section_rules q name style old new kinds put keeps is table none alone =
     let p = child q name in
-    header_rules (IsTableEnd p) (ends_table 0) p (section_block p) old new put.front put.back kinds q (block q name style old new put) (there q name style old new put) keeps is
-    alone (fronts_are_tables old kinds keeps is q name table) over (λ m at. absent_goes kinds q (named put.front) m (ap kinds at.0 ∙ none))
+    header_rules (IsTableEnd p) (ends_table 0) p (section_block p) old new put.front put.back kinds q (block q name style old new put)
+    (there q name style old new put) keeps is alone (fronts_are_tables old kinds keeps is q name table) over
+    (λ m at. absent_goes kinds q (named put.front) m (ap kinds at.0 ∙ none))
   where
     -- what a name follows on the way is the table, or above it
     over : (r rest : Address) (n : List ℕ) → child q name ≡ r ++ Name n ∷ rest → (s : Address) × (q ≡ r ++ s)
@@ -61,8 +62,8 @@ pub section_short : (q : Address) (name style : List ℕ) (old new : List Line) 
     → IsShort (named old) → length (child q name) ≤ max_steps → IsShort (named new)
 section_short q name style old new put is low =
     let p = child q name in
-    header_short (IsTableEnd p) (ends_table 0) p (named put.front) (section_block p) old new (block q name style old new put) (section_names q name style old new put) is low
-    (λ m at. subst (λ a. length a ≤ max_steps) (sym at.0) low)
+    header_short (IsTableEnd p) (ends_table 0) p (named put.front) (section_block p) old new (block q name style old new put)
+    (section_names q name style old new put) is low (λ m at. subst (λ a. length a ≤ max_steps) (sym at.0) low)
 
 -- the new lines have the data that the edit makes of those of the old
 pub section_data : (profile : Profile) (q : Address) (name style : List ℕ) (old new : List Line) (kinds after : Kinds) → IsSectionPut (child q name) style old new

@@ -21,7 +21,7 @@ use Rattle.toml_editor.proofs.written.EmptyAlone.{first_under}
 use Rattle.toml_editor.proofs.written.HeaderCounted.{Enters, enters, same_behind}
 use Rattle.toml_editor.proofs.written.HeaderLeads.{key_again}
 use Rattle.toml_editor.proofs.written.HeaderPut.{IsHeaderPut, IsPutBefore, IsSectionPut, ended}
-use Rattle.toml_editor.proofs.written.Plain.{behind, plain_alike, plain_is}
+use Rattle.toml_editor.proofs.written.Plain.{behind, plain_alike, plain_is, plain_parts}
 
 -- ---- the key
 
@@ -35,13 +35,13 @@ names_of_element (Index j ∷ at) i = names_of_element at i
 abbrev pub HasNames : Key → Type 0
 HasNames names = (n : List ℕ) × (ns : Key) × (names ≡ n ∷ ns)
 
--- The names of an address to which their key leads are some, and they lead there.
-pub names_lead : (xs : List Named) (names : Key) (at : Address) → names_of at ≡ names → header_end xs [] (key_names (key_named names)) ≡ at
+-- Where the key of an address's names leads to the address, it has names, and these are what the key spells.
+names_lead : (xs : List Named) (names : Key) (at : Address) → names_of at ≡ names → header_end xs [] (key_names (key_named names)) ≡ at
     → HasNames names × (key_names (key_named names) ≡ names)
 names_lead xs [] at are is = let x : ◌≡◌ {A = Key} (part_name (fresh []) ∷ []) [] = ap names_of is ∙ are in absurd (let e : ⊥ = cc in e)
 names_lead xs (n ∷ ns) at are is = ((n, ns, refl), key_again n ns)
 
--- so it is of a header line
+-- so it is where a header line leads to its address
 pub header_names_some : (brackets : Brackets) (p : Address) (ws : List ℕ) (xs : List Named) → own_address xs (header_expr brackets p ws) ≡ Some p
     → HasNames (names_of p) × (key_names (key_named (names_of p)) ≡ names_of p)
 header_names_some One p ws xs leads = names_lead xs (names_of p) p refl (same_Some (header_end xs [] (key_names (key_named (names_of p)))) p leads)
@@ -142,20 +142,7 @@ module _ (xs : List Named) (end : Address → List Named) where
 
 -- ---- the lines
 
--- what lines name, and lines behind them
-pub behind_parts : (a b : List Line) (ys : List Named) → behind ys (a ++ b) ≡ behind ys a ++ behind (ys ++ behind ys a) b
-behind_parts [] b ys = ap (λ r. behind r b) (sym (append-nil ys))
-behind_parts (l ∷ a) b ys =
-    let new = named_by ys 0 l.expr in
-    ap (λ r. new ++ r) (behind_parts a b (ys ++ new))
-    ∙ sym (append_assoc new (behind (ys ++ new) a) (behind ((ys ++ new) ++ behind (ys ++ new) a) b))
-    ∙ ap (λ r. (new ++ behind (ys ++ new) a) ++ behind r b) (append_assoc ys new (behind (ys ++ new) a))
-
-pub plain_parts : (a b : List Line) → named_plain (a ++ b) ≡ named_plain a ++ behind (named_plain a) b
-plain_parts a b =
-    plain_is (a ++ b) ∙ ap (λ r. root ∷ r) (behind_parts a b (root ∷ [])) ∙ ap (λ r. r ++ behind r b) (sym (plain_is a))
-
--- a line's newline names nothing
+-- whatever a line's newline is, it names the same
 ended_names : (style : List ℕ) (last : Line) (ls : List Line) (before : List Line) (xs : List Named)
     → behind xs (before ++ ended style last ∷ ls) ≡ behind xs (before ++ last ∷ ls)
 ended_names style last ls [] xs = refl
