@@ -43,6 +43,7 @@ pub mod HeaderFollow
 pub mod HeaderGoes
 pub mod HeaderKept
 pub mod HeaderLeads
+pub mod HeaderLength
 pub mod HeaderPlace
 pub mod HeaderPut
 pub mod HeaderSplit
@@ -126,6 +127,7 @@ pub mod WayHeaded
 pub mod WayHeld
 pub mod WayKeeps
 pub mod WayKept
+pub mod WayLast
 pub mod WayOn
 pub mod WayOwed
 pub mod WayPut

@@ -41,17 +41,12 @@ use Rattle.toml_editor.specs.SpelledEdits.{AreSteps, step_spelled}
 use Rattle.toml_editor.specs.Steps.{IsPlain}
 use Rattle.toml_editor.proofs.written.ElementFacts.{element_room}
 use Rattle.toml_editor.proofs.written.Follow.{follows}
+use Rattle.toml_editor.proofs.written.FollowedFacts.{name_is_no_element}
 use Rattle.toml_editor.proofs.written.HeaderGoes.{element_put, section_put}
 use Rattle.toml_editor.proofs.written.InTurn.{header_is_taken}
 use Rattle.toml_editor.proofs.written.SectionFacts.{section_room}
 use Rattle.toml_editor.proofs.written.StandingOrder.{rules_order}
 use Rattle.toml_editor.proofs.written.TablesStay.{parent_is}
-
--- a name is no element
-name_is_no_element : (q : Address) (name : List ℕ) → element_of (child q name) ≡ None
-name_is_no_element [] name = refl
-name_is_no_element (s ∷ []) name = refl
-name_is_no_element (s ∷ t ∷ q) name = ap (option_map (λ e. (s ∷ e.0, e.1))) (name_is_no_element (t ∷ q) name)
 
 -- the steps that are spelled are the spellings of names
 are_spellings : (p : Address) (texts : List (List ℕ)) → texts ≡ map step_spelled p → AreSpellings p texts

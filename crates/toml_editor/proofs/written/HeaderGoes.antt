@@ -1,5 +1,5 @@
 -- Where a header line goes in either layout: it may stand there, and what then stands on the lines is what is laid out.
-use Rattle.std.proofs.Common.{◌≡◌, ℕ, List, refl}
+use Rattle.std.proofs.Common.{◌≡◌, ℕ, List}
 use Rattle.toml_tree.specs.Spells.{AreLines}
 use Rattle.toml_tree.specs.Tree.{Line}
 use Rattle.toml_names.specs.mentions.Mentions.{named}
@@ -13,8 +13,10 @@ use Rattle.toml_working.specs.HeaderStanding.{header_laid_out}
 use Rattle.toml_working.specs.Manners.{Manner}
 use Rattle.toml_working.specs.Standing.{standing}
 use Rattle.toml_editor.specs.EditedLines.{IsInNoValue, header_put_in}
+use Rattle.toml_editor.proofs.written.ElementPlace.{element_goes}
+use Rattle.toml_editor.proofs.written.FollowedFacts.{element_followed, section_followed}
 use Rattle.toml_editor.proofs.written.HeaderThere.{IsPutThere}
-use Rattle.toml_editor.proofs.written.SectionFacts.{IsNextElement, IsRoom}
+use Rattle.toml_editor.proofs.written.SectionFacts.{IsNextElement, IsRoom, section_goes}
 
 module _ (manner : Manner) (lines : List Line) (kinds : Kinds) (forms : AreLines lines) (keeps : KeepsRules (named lines)) (facts : IsDataOf (named lines) kinds) where
   pub section_put_in : (layout : Layout) (q : Address) (name : List ℕ) → IsRoom q name kinds → IsInNoValue lines q

@@ -76,7 +76,7 @@ pub no_more : (o : Option Address) → option_and_then (carried []) o ≡ o
 no_more None = refl
 no_more (Some a) = refl
 
-nowhere_stands : (part : Part) (cs : List Change) (base : Option ℕ) → stands part cs None base ≡ true
+pub nowhere_stands : (part : Part) (cs : List Change) (base : Option ℕ) → stands part cs None base ≡ true
 nowhere_stands part [] base = refl
 nowhere_stands part (c ∷ cs) base = refl
 
