@@ -1,5 +1,5 @@
 -- What the judge refuses is not made of plain edits.
-use Rattle.std.proofs.Common.{ℕ, ◌≤◌, List, length, subst}
+use Rattle.std.proofs.Common.{ℕ, ◌≤◌, ◌∙◌, List, length, subst}
 use Rattle.std.specs.Prelude.{string_bytes}
 use Rattle.std.specs.declared.string.String.{String}
 use Rattle.std.proofs.lemmas.Str.{IsUtf8-string_bytes, is_utf8-from_IsUtf8}
@@ -21,6 +21,7 @@ use Rattle.toml_editor.specs.PlainTexts.{IsNoPlainList, WritesPlain}
 use Rattle.toml_editor.specs.Steps.{AreWritten, IsGoodText}
 use Rattle.toml_layout.specs.declared.layout.Layout.{Layout}
 use Rattle.toml_working.specs.Written.{manner_of}
+use Rattle.toml_editor.proofs.SourceKept.{text_ends}
 use Rattle.toml_editor.proofs.written.Certify.{outer_partners, outer_partners_certify}
 use Rattle.toml_editor.proofs.written.Elsewhere.{style_is_newline}
 use Rattle.toml_editor.proofs.written.OuterPairs.{outer_are_named}
@@ -45,7 +46,7 @@ module _ (layout : Layout) (profile : Profile) (before after : List ℕ) (cs : L
       let newline = style_is_newline d.lines document.2.lines.forms in
       let edits : AreWritten profile cs (manner_of layout d.lines) before after =
       of_tree (λ (e : Doc). ArePlain profile cs (manner_of layout e.lines) before → AreWritten profile cs (manner_of layout e.lines) before after) written plain in
-      let (new, os, partners) = outer_partners cs profile (manner_of layout d.lines) before after old now newline good lead edits in (
+      let (new, os, partners) = outer_partners cs profile (manner_of layout d.lines) before after old now newline good (λ may. text_ends d before document.2 ∙ may) lead edits in (
         os,
         record {
           certified = outer_partners_certify cs profile (manner_of layout d.lines) before after old now newline document.0 within good lead edits new os partners;

@@ -47,10 +47,10 @@ ends_on (a ∷ b ∷ c ∷ bs) = by (a == 0xEF && b == 0xBB && c == 0xBF) refl
     by : (t : Bool) → (a == 0xEF && b == 0xBB && c == 0xBF) ≡ t → ends_in_newline (a ∷ b ∷ c ∷ bs) ≡ ends_in_newline (behind (a == 0xEF && b == 0xBB && c == 0xBF))
     by false is = ap (λ t. ends_in_newline (behind t)) (sym is)
     by true is =
-        past (other (and_parts (b == 0xBB) (c == 0xBF) (and_parts (a == 0xEF) (b == 0xBB && c == 0xBF) is).1).1) bs
+        past (other (and_parts (a == 0xEF && b == 0xBB) (c == 0xBF) is).1) bs
         ∙ ap (λ t. ends_in_newline (behind t)) (sym is)
 
-text_ends : (d : Doc) (text : List ℕ) → Spells d text → ends_in_newline text ≡ ends_in_newline (joined (lines_parts d.lines))
+pub text_ends : (d : Doc) (text : List ℕ) → Spells d text → ends_in_newline text ≡ ends_in_newline (joined (lines_parts d.lines))
 text_ends d text spells = ends_on text ∙ ap ends_in_newline (sym spells.lines.text_is)
 
 -- at first it is that of the lines that were read

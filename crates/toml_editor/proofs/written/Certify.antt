@@ -22,6 +22,7 @@ use Rattle.toml_editor.proofs.written.UnitsListed.{list_is_carried}
 use Rattle.toml_working.specs.Manners.{Manner}
 use Rattle.toml_editor.specs.EditedLines.{manner_after}
 use Rattle.toml_editor.proofs.Mannered.{keeps_newline}
+use Rattle.toml_editor.specs.CarriedLists.{EndsAsTold}
 
 -- the demands that are not of pairs
 module _ (cs : List Change) (profile : Profile) (manner : Manner) (before after : List ℕ) (old now : Kinds) (newline : IsNewline manner.newline)
@@ -79,18 +80,18 @@ list_is_written (c ∷ cs) profile manner before old now newline good (none, mid
 
 -- what they write is a good text, and has outer partners with the first one
 pub outer_partners : (cs : List Change) (profile : Profile) (manner : Manner) (before after : List ℕ) (old now : Kinds) → IsNewline manner.newline
-    → (good : IsGoodText profile before old) → Lead profile cs old now → AreWritten profile cs manner before after
+    → (good : IsGoodText profile before old) → EndsAsTold manner before → Lead profile cs old now → AreWritten profile cs manner before after
     → (new : IsGoodText profile after now) × (os : List (ℕ × ℕ)) × AreOuterPartners cs good.tree new.tree os
-outer_partners cs profile manner before after old now newline good lead written =
+outer_partners cs profile manner before after old now newline good told lead written =
     let new = (plain_steps profile cs manner before after old now newline good lead written).0 in
-    let all = list_is_carried cs profile manner before after old now newline good lead written new in
+    let all = list_is_carried cs profile manner before after old now newline good told lead written new in
     let outer = outer_of cs (units good.tree.lines) all.0 in
     (new, outer.0, record { all = all.0; are = all.1; outer = outer.1 })
 
 pub plain_list_is_certified : PlainListIsCertified
-plain_list_is_certified cs profile manner before old now newline within good lead plain =
+plain_list_is_certified cs profile manner before old now newline within good told lead plain =
     let text = list_is_written cs profile manner before old now newline good lead plain in
-    let (new, pairs, partners) = outer_partners cs profile manner before text.0 old now newline good lead text.1 in (
+    let (new, pairs, partners) = outer_partners cs profile manner before text.0 old now newline good told lead text.1 in (
       text.0,
       text.1,
       record {

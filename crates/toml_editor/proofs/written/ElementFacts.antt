@@ -56,13 +56,13 @@ module _ (profile : Profile) (q : Address) (i : ℕ) (kinds : Kinds) (closed : I
   some_or None = inr refl
   some_or (Some k) = inl refl
 
+  -- so many stand there, by what the array is
+  abbrev OfKind : Option Kind → Type 0
+  OfKind o = MatchOption o (i ≡ 0) (λ k. (k ≡ an_array) × ((j : ℕ) → j < i → IsSome (kinds (element q j))) × (kinds (element q i) ≡ None))
+
   is_next : ((kinds q ≡ None) × (i ≡ 0)) ⊎ ((kinds q ≡ Some an_array) × ((j : ℕ) → j < i → IsSome (kinds (element q j))))
   is_next = by (kinds q) refl not_not
     where
-      -- so many stand there
-      abbrev OfKind : Option Kind → Type 0
-      OfKind o = MatchOption o (i ≡ 0) (λ k. (k ≡ an_array) × ((j : ℕ) → j < i → IsSome (kinds (element q j))) × (kinds (element q i) ≡ None))
-
       first : (n : ℕ) → ¬ ¬ (n ≡ 0) → n ≡ 0
       first zero h = refl
       first (suc n) h = absurd (h (λ e. cc))
@@ -83,12 +83,9 @@ module _ (profile : Profile) (q : Address) (i : ℕ) (kinds : Kinds) (closed : I
       by : (o : Option Kind) → kinds q ≡ o → (x : Option Kind) → kinds (element q i) ≡ x → kinds (element q i) ≡ None
       by o e None is = is
       by None e (Some k) is = closed q (Index i) e
-      by (Some k) e (Some l) is = absurd (not_not (λ next. taken (subst OfSome e next)))
+      by (Some k) e (Some l) is = absurd (not_not (λ next. taken (subst OfKind e next)))
         where
-          abbrev OfSome : Option Kind → Type 0
-          OfSome o = MatchOption o (i ≡ 0) (λ k. (k ≡ an_array) × ((j : ℕ) → j < i → IsSome (kinds (element q j))) × (kinds (element q i) ≡ None))
-
-          taken : OfSome (Some k) → ⊥
+          taken : OfKind (Some k) → ⊥
           taken w = (let x : ◌≡◌ {A = Option Kind} (Some l) None = sym is ∙ w.2 in cc)
 
   pub element_room : IsNextElement q i kinds

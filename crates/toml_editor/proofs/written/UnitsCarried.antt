@@ -1,5 +1,5 @@
 -- What plain edits carry along, from text to text.
-use Rattle.std.proofs.Common.{◌≡◌, ◌⊎◌, inl, inr, ℕ, List, [], ◌∷◌, ◌++◌, length, refl, sym, ap, ◌∙◌, subst, Option, Some, None, IfSome, IsSome, map, true≢false}
+use Rattle.std.proofs.Common.{◌≡◌, ◌⊎◌, inl, inr, ℕ, List, [], ◌∷◌, ◌++◌, length, refl, sym, ap, ◌∙◌, subst, Option, Some, None, IfSome, IsSome, map, true≢false, Bool, true, false, ◌&&◌}
 use Rattle.toml_tree.specs.Bare.{bare_lines}
 use Rattle.toml_tree.specs.Places.{put_doc}
 use Rattle.toml_tree.specs.Spells.{Spells, AreLines, joined, lines_parts, mark_of, EachIs}
@@ -51,23 +51,37 @@ use Rattle.toml_editor.proofs.written.WaySet.{set_way}
 use Rattle.toml_editor.proofs.written.WayHeaded.{element_way, section_way}
 use Rattle.toml_editor.proofs.written.WayPut.{insert_way}
 use Rattle.toml_editor.proofs.written.WayRenamed.{rename_way}
-use Rattle.toml_editor.proofs.written.WayWhole.{HasWay, partners, same_seen, same_newlines}
 use Rattle.toml_working.specs.Manners.{Manner}
+use Rattle.std.specs.Prelude.{not}
+use Rattle.toml_layout.specs.Holders.{parent_of}
+use Rattle.toml_layout.specs.declared.tree.Brackets.{Brackets}
+use Rattle.toml_working.specs.HeaderStanding.{blank_laid_out, blank_standing, header_laid_out}
+use Rattle.toml_working.specs.Standing.{standing}
+use Rattle.toml_editor.proofs.written.HeaderLength.{one_more}
+use Rattle.toml_editor.proofs.written.TablesStay.{parent_is}
+use Rattle.toml_editor.proofs.written.UnitsHeaded.{IsOneMore}
+use Rattle.toml_editor.proofs.written.WayWhole.{HasWay, HasWayIf, partners, same_newlines, same_seen, way_weaker}
 
--- a way to lines that make the text
-pub record HasGone (c : Change) (d : Doc) (after : List ℕ) : Type 0 where
+-- whether the edit puts a blank line in before a header line
+abbrev pub puts_blank : Change → Manner → List Line → Bool
+puts_blank (new_section p) manner lines = blank_standing (parent_of p) p One manner manner.may_blank (standing lines)
+puts_blank (new_element p) manner lines = blank_standing (parent_of p) p Two manner manner.may_blank (standing lines)
+puts_blank _ manner lines = false
+
+-- A way to lines that make the text. Where no blank line is put in, a last line of no bytes stays the last.
+pub record HasGone (c : Change) (manner : Manner) (d : Doc) (after : List ℕ) : Type 0 where
   pub comments_in : List (List ℕ)
   pub comments_are : AreCommentsIn c comments_in
   pub edited : List Line
   pub forms : AreLines edited
   pub text : after ≡ d.mark.text ++ joined (lines_parts edited)
-  pub way : HasWay (c ∷ []) (comments_in ∷ []) d.lines edited
+  pub way : HasWayIf (puts_blank c manner d.lines ≡ false) (c ∷ []) (comments_in ∷ []) d.lines edited
 
 -- the tree of the text has these lines, but for places
-pub lines_again : (c : Change) (profile : Profile) (before after : List ℕ) (old now : Kinds) (good : IsGoodText profile before old)
-    (new : IsGoodText profile after now) (gone : HasGone c good.tree after)
+pub lines_again : (c : Change) (profile : Profile) (manner : Manner) (before after : List ℕ) (old now : Kinds) (good : IsGoodText profile before old)
+    (new : IsGoodText profile after now) (gone : HasGone c manner good.tree after)
     → bare_lines new.tree.lines ≡ bare_lines gone.edited
-lines_again c profile before after old now good new gone =
+lines_again c profile manner before after old now good new gone =
     let edited = gone.edited in
     let mark : good.tree.mark ≡ record { start = 0; text = mark_of before } = good.spelled.0.mark in
     let is_text : mark_of before ++ joined (lines_parts edited) ≡ after =
@@ -77,10 +91,28 @@ lines_again c profile before after old now good new gone =
     (subst (Spells (put_doc (mark_of before) edited)) is_text (put_doc_spells before edited gone.forms)) in
     ap (λ (d : Doc). bare_lines d.lines) same ∙ put_lines_same edited (length (mark_of before))
 
+-- so it is always, where none is ever put in
+always : (c : Change) (manner : Manner) (ts : List (List ℕ)) (lines edited : List Line) → puts_blank c manner lines ≡ false → HasWay (c ∷ []) (ts ∷ []) lines edited
+    → HasWayIf (puts_blank c manner lines ≡ false) (c ∷ []) (ts ∷ []) lines edited
+always c manner ts lines edited none way = way_weaker (puts_blank c manner lines ≡ false) (c ∷ []) (ts ∷ []) lines edited (λ is. tt) way
+
+-- a header line that is put in without one is one line more
+header_more : (brackets : Brackets) (q p : Address) (last : Step) (manner : Manner) (lines put : List Line) → p ≡ q ++ last ∷ [] → AreLines lines → IsInNoValue lines q
+    → standing put ≡ header_laid_out manner.layout q p brackets manner manner.may_blank (standing lines)
+    → blank_standing (parent_of p) p brackets manner manner.may_blank (standing lines) ≡ false → IsOneMore lines put
+header_more brackets q p last manner lines put at forms outside is none =
+    one_more manner.layout q p brackets manner manner.may_blank lines put (some lines forms) is
+    (sym (ap (λ b. not b && blank_laid_out manner.layout q p brackets manner manner.may_blank (standing lines)) outside)
+    ∙ ap (λ r. blank_standing r p brackets manner manner.may_blank (standing lines)) (sym (parent_is q last) ∙ ap parent_of (sym at)) ∙ none)
+  where
+    some : (ls : List Line) → AreLines ls → ¬ (ls ≡ [])
+    some [] are is = are
+    some (l ∷ ls) are is = cc
+
 -- what is to be shown of an edit
 abbrev HaveWays : Change → Type 0
 HaveWays c = (profile : Profile) (manner : Manner) (before after : List ℕ) (old now : Kinds) → IsNewline manner.newline → (good : IsGoodText profile before old)
-    → IsFault profile c old None → IsAfter profile c old now → IsWritten profile c manner before after → HasGone c good.tree after
+    → IsFault profile c old None → IsAfter profile c old now → IsWritten profile c manner before after → HasGone c manner good.tree after
 
 rename_goes : (p : Address) (to : List ℕ) → HaveWays (rename p to)
 rename_goes p to profile manner before after old now newline good none is_after (d, spells, edited, made, text) = by (last_step p)
@@ -94,7 +126,7 @@ rename_goes p to profile manner before after old now newline good none is_after 
     text_is : after ≡ good.tree.mark.text ++ joined (lines_parts (rename_lines p to good.tree.lines))
     text_is = text ∙ ap (λ (x : Doc). x.mark.text ++ joined (lines_parts edited)) same ∙ ap (λ ls. good.tree.mark.text ++ joined (lines_parts ls)) lines_are
 
-    by : (p ≡ []) ⊎ ((q : Address) × (s : Step) × (p ≡ q ++ s ∷ [])) → HasGone (rename p to) good.tree after
+    by : (p ≡ []) ⊎ ((q : Address) × (s : Step) × (p ≡ q ++ s ∷ [])) → HasGone (rename p to) manner good.tree after
     by (inl root) = absurd (none RootNamed root)
     by (inr (q, Index i, at)) = absurd (none NotAName (q, i, at))
     by (inr (q, Name n, at)) =
@@ -105,8 +137,9 @@ rename_goes p to profile manner before after old now newline good none is_after 
           edited = rename_lines p to good.tree.lines;
           forms = rename_forms p to good.tree.lines good.spelled.0.lines.forms;
           text = text_is;
-          way = subst (λ x. HasWay (rename x to ∷ []) ([] ∷ []) good.tree.lines (rename_lines x to good.tree.lines)) (sym at)
-              (rename_way q n to good.tree.lines good.spelled.0.lines.forms free good.good.0);
+          way = always (rename p to) manner [] good.tree.lines (rename_lines p to good.tree.lines) refl
+              (subst (λ x. HasWay (rename x to ∷ []) ([] ∷ []) good.tree.lines (rename_lines x to good.tree.lines)) (sym at)
+              (rename_way q n to good.tree.lines good.spelled.0.lines.forms free good.good.0));
         }
 
 insert_goes : (p : Address) (value : List ℕ) → HaveWays (insert p value)
@@ -123,8 +156,9 @@ insert_goes p value profile manner before after old now newline good none is_aft
       edited = insert_in q name v manner lines;
       forms = insert_forms q name v manner lines there' good.spelled.0.lines.forms newline is_value.0.form is_value.0.shallow;
       text = text_is;
-      way = subst (λ x. HasWay (insert x value ∷ []) (texts (comments (inside [] v)) ∷ []) lines (insert_in q name v manner lines)) (sym at)
-          (insert_way q name value v manner lines there' good.spelled.0.lines.forms);
+      way = always (insert p value) manner (texts (comments (inside [] v))) lines (insert_in q name v manner lines) refl
+          (subst (λ x. HasWay (insert x value ∷ []) (texts (comments (inside [] v)) ∷ []) lines (insert_in q name v manner lines)) (sym at)
+          (insert_way q name value v manner lines there' good.spelled.0.lines.forms));
     }
 
 set_goes : (p : Address) (value : List ℕ) → HaveWays (set p value)
@@ -144,7 +178,8 @@ set_goes p value profile manner before after old now newline good none is_after 
       edited = set_lines p v lines;
       forms = set_forms p v lines good.spelled.0.lines.forms is_value.0.form short;
       text = text_is;
-      way = set_way p value v lines apart good.spelled.0.lines.forms is_value.0.form there' good.good.0;
+      way = always (set p value) manner (texts (comments (inside [] v))) lines (set_lines p v lines) refl
+          (set_way p value v lines apart good.spelled.0.lines.forms is_value.0.form there' good.good.0);
     }
 
 -- units of edited lines are at addresses that their lines name
@@ -191,7 +226,7 @@ remove_goes p profile manner before after old now newline good none is_after (d,
       text =
           text ∙ ap (λ (x : Doc). x.mark.text ++ joined (lines_parts edited)) same
           ∙ ap (λ ls. good.tree.mark.text ++ joined (lines_parts ls)) lines_are;
-      way = remove_way p lines good.spelled.0.lines.forms has_line good.good.0 far;
+      way = always (remove p) manner [] lines (remove_lines p lines) refl (remove_way p lines good.spelled.0.lines.forms has_line good.good.0 far);
     }
 
 section_ways : (p : Address) → HaveWays (new_section p)
@@ -200,7 +235,9 @@ section_ways p profile manner before after old now newline good none is_after (d
     let lines = good.tree.lines in
     let forms = good.spelled.0.lines.forms in
     let room = section_room profile q name old (subst (λ x. IsFault profile (new_section x) old None) at none) in
-    let put = (section_put q name manner lines old forms good.good.0 good.facts room (subst (λ (x : Doc). IsInNoValue x.lines q) same outside)).header in
+    let outside' = subst (λ (x : Doc). IsInNoValue x.lines q) same outside in
+    let there = section_put q name manner lines old forms good.good.0 good.facts room outside' in
+    let put = there.header in
     let edited' = header_put_in manner.layout q One (child q name) manner lines in
     let lines_are : edited ≡ edited' =
     made ∙ ap (λ (x : Doc). header_put_in manner.layout q One p manner x.lines) same ∙ ap (λ x. header_put_in manner.layout q One x manner lines) at in
@@ -212,7 +249,10 @@ section_ways p profile manner before after old now newline good none is_after (d
       text =
           text ∙ ap (λ (x : Doc). x.mark.text ++ joined (lines_parts edited)) same
           ∙ ap (λ ls. good.tree.mark.text ++ joined (lines_parts ls)) lines_are;
-      way = subst (λ x. HasWay (new_section x ∷ []) ([] ∷ []) lines edited') (sym at) (section_way q name manner.newline lines edited' put forms);
+      way =
+          subst (λ x. HasWayIf (puts_blank (new_section x) manner lines ≡ false) (new_section x ∷ []) ([] ∷ []) lines edited') (sym at)
+          (way_weaker (puts_blank (new_section (child q name)) manner lines ≡ false) (new_section (child q name) ∷ []) ([] ∷ []) lines edited'
+          (header_more One q (child q name) (Name name) manner lines edited' refl forms outside' there.stands) (section_way q name manner.newline lines edited' put forms));
     }
 
 element_ways : (p : Address) → HaveWays (new_element p)
@@ -221,7 +261,9 @@ element_ways p profile manner before after old now newline good none is_after (d
     let lines = good.tree.lines in
     let forms = good.spelled.0.lines.forms in
     let room = element_room profile q i old (lines_are_closed lines old good.good.0 good.facts) (subst (λ x. IsFault profile (new_element x) old None) at none) in
-    let put = (element_put q i manner lines old forms good.good.0 good.facts room (subst (λ (x : Doc). IsInNoValue x.lines q) same outside)).header in
+    let outside' = subst (λ (x : Doc). IsInNoValue x.lines q) same outside in
+    let there = element_put q i manner lines old forms good.good.0 good.facts room outside' in
+    let put = there.header in
     let edited' = header_put_in manner.layout q Two (element q i) manner lines in
     let lines_are : edited ≡ edited' =
     made ∙ ap (λ (x : Doc). header_put_in manner.layout q Two p manner x.lines) same ∙ ap (λ x. header_put_in manner.layout q Two x manner lines) at in
@@ -233,7 +275,10 @@ element_ways p profile manner before after old now newline good none is_after (d
       text =
           text ∙ ap (λ (x : Doc). x.mark.text ++ joined (lines_parts edited)) same
           ∙ ap (λ ls. good.tree.mark.text ++ joined (lines_parts ls)) lines_are;
-      way = subst (λ x. HasWay (new_element x ∷ []) ([] ∷ []) lines edited') (sym at) (element_way q i manner.newline lines edited' put forms);
+      way =
+          subst (λ x. HasWayIf (puts_blank (new_element x) manner lines ≡ false) (new_element x ∷ []) ([] ∷ []) lines edited') (sym at)
+          (way_weaker (puts_blank (new_element (element q i)) manner lines ≡ false) (new_element (element q i) ∷ []) ([] ∷ []) lines edited'
+          (header_more Two q (element q i) (Index i) manner lines edited' refl forms outside' there.stands) (element_way q i manner.newline lines edited' put forms));
     }
 
 pub plain_goes : (c : Change) → HaveWays c
@@ -247,6 +292,6 @@ plain_goes (new_element p) = element_ways p
 pub plain_is_carried : PlainIsCarried
 plain_is_carried c profile manner before after old now newline good none is_after written new =
     let gone = plain_goes c profile manner before after old now newline good none is_after written in
-    let bares = lines_again c profile before after old now good new gone in
+    let bares = lines_again c profile manner before after old now good new gone in
     partners (c ∷ []) (gone.comments_in ∷ []) good.tree new.tree gone.edited gone.way (gone.comments_are, tt)
     (same_seen new.tree.lines gone.edited bares) (same_newlines new.tree.lines gone.edited bares)

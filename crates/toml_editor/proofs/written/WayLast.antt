@@ -100,22 +100,24 @@ module _ (Firm Later : Type 0) (firm : Firm) (c : Change) (written : List (List 
         );
         bare = bare_behind w (news s) more.bare;
       }
-  last_stays (old u ∷ s) line next a b fit keep it old_count new_count = by it.front it.is
+  last_stays (old u ∷ s) line next a b fit keep it old_count new_count =
+      by it.front it.is (λ bare. last_stays s (next_line line (site u)) next (a + one_line u.kind) b fit.1 keep bare (omega (arith, old_count)) new_count)
     where
-      by : (front : List TextUnit) → u ∷ olds s ≡ front ++ it.last ∷ it.back → LastStays (old u ∷ s)
-      by [] is =
+      by : (front : List TextUnit) → u ∷ olds s ≡ front ++ it.last ∷ it.back → (LastIsBare (olds s) → LastStays s) → LastStays (old u ∷ s)
+      by [] is go =
           let same : u ≡ it.last = cc in
           absurd (true≢false (sym (bare_here line u (ap (λ (x : TextUnit). x.kind) same ∙ it.line) (ap (λ (x : TextUnit). x.address) same ∙ it.nowhere)) ∙ fit.0))
-      by (x ∷ front) is =
+      by (x ∷ front) is go =
           let rest : olds s ≡ front ++ it.last ∷ it.back = cc in
-          let more = last_stays s (next_line line (site u)) next (a + one_line u.kind) b fit.1 keep
-          (record { front = front; last = it.last; back = it.back; is = rest; line = it.line; bare = it.bare; nowhere = it.nowhere; none = it.none })
-          (omega (arith, old_count)) new_count in
+          let more = go (record { front = front; last = it.last; back = it.back; is = rest; line = it.line; bare = it.bare; nowhere = it.nowhere; none = it.none }) in
           record { sure = more.sure; bare = more.bare }
-  last_stays (both u w ∷ s) line next a b fit keep it old_count new_count = by it.front it.is
+  last_stays (both u w ∷ s) line next a b fit keep it old_count new_count =
+      by it.front it.is
+      (λ bare. last_stays s (next_line line (site u)) (next_line next (site w)) (a + one_line u.kind) (b + one_line w.kind) fit.1 keep.1 bare
+      (omega (arith, old_count)) (omega (arith, new_count)))
     where
-      by : (front : List TextUnit) → u ∷ olds s ≡ front ++ it.last ∷ it.back → LastStays (both u w ∷ s)
-      by [] is =
+      by : (front : List TextUnit) → u ∷ olds s ≡ front ++ it.last ∷ it.back → (LastIsBare (olds s) → LastStays s) → LastStays (both u w ∷ s)
+      by [] is go =
           let same : u ≡ it.last = cc in
           let rest : olds s ≡ it.back = cc in
           let is_line : u.kind ≡ kinds.Line = ap (λ (x : TextUnit). x.kind) same ∙ it.line in
@@ -141,11 +143,9 @@ module _ (Firm Later : Type 0) (firm : Firm) (c : Change) (written : List (List 
               none = last;
             };
           }
-      by (x ∷ front) is =
+      by (x ∷ front) is go =
           let rest : olds s ≡ front ++ it.last ∷ it.back = cc in
-          let more = last_stays s (next_line line (site u)) (next_line next (site w)) (a + one_line u.kind) (b + one_line w.kind) fit.1 keep.1
-          (record { front = front; last = it.last; back = it.back; is = rest; line = it.line; bare = it.bare; nowhere = it.nowhere; none = it.none })
-          (omega (arith, old_count)) (omega (arith, new_count)) in
+          let more = go (record { front = front; last = it.last; back = it.back; is = rest; line = it.line; bare = it.bare; nowhere = it.nowhere; none = it.none }) in
           record { sure = more.sure; bare = bare_behind w (news s) more.bare }
 
 -- where a last line of no bytes always stays the last, nothing is to be shown of lines that come
