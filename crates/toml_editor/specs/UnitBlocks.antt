@@ -11,7 +11,9 @@ use Rattle.toml_names.specs.mentions.Rules.{KeepsRules}
 use Rattle.toml_names.specs.model.Addresses.{Address, child}
 use Rattle.toml_units.specs.declared.unit.UnitKind.TheVariants as kinds
 use Rattle.toml_units.specs.Units.{TextUnit, inside, comment_units, units}
+use Rattle.toml_layout.specs.OpenOutlines.{closing_brackets, opening_brackets}
 use Rattle.toml_layout.specs.declared.layout.Layout.TheVariants as layouts
+use Rattle.toml_layout.specs.declared.tree.Brackets.{Brackets}
 use Rattle.toml_working.specs.Headers.{names_of}
 use Rattle.toml_working.specs.Inserting.{insert_in}
 use Rattle.toml_working.specs.Manners.{Manner}
@@ -64,9 +66,9 @@ pub record IsBlockTaken (old block new : List TextUnit) : Type 0 where
 abbrev pub pair_text : Spacing → List ℕ → Value → List ℕ
 pair_text s name v = s.ws ++ (spelled name ++ (s.before_equals ++ 0x3D ∷ (s.after_equals ++ joined (value_parts v))))
 
--- the bytes of a new section's header line with this whitespace, but for its newline: the names, spelled, with `.` between them
-abbrev pub header_text : List ℕ → Address → List ℕ
-header_text ws p = ws ++ 0x5B ∷ (join_by spelled (0x2E ∷ []) (names_of p) ++ 0x5D ∷ [])
+-- the bytes of a new header line with this whitespace, but for its newline: the names, spelled, with `.` between them, in the brackets
+abbrev pub header_text : Brackets → List ℕ → Address → List ℕ
+header_text brackets ws p = ws ++ (opening_brackets brackets ++ (join_by spelled (0x2E ∷ []) (names_of p) ++ closing_brackets brackets))
 
 -- Law: the units of the new lines are those of the old ones and those of the new line, which has some whitespace, in layout `Plain` that of
 -- ` = `.

@@ -50,7 +50,8 @@ module _ (xs ys : List Named) (own : Address) (same : AreCountedBut (IsUnseen (S
   ]
 
   -- each table that it passes is above its own
-  passed_above : (key : Key) (m n : List ℕ) (at : Address) → IsUnder (header_end xs at (n ∷ m ∷ key)) own → count_tables xs (child at n) ≡ count_tables ys (child at n)
+  passed_above : (key : Key) (m n : List ℕ) (at : Address) → IsUnder (header_end xs at (n ∷ m ∷ key)) own
+      → count_tables xs (child at n) ≡ count_tables ys (child at n)
   passed_above key m n at under =
       counted_above (child at n) (under_trans (child at n) (header_end xs at (n ∷ m ∷ key)) own (first_under xs (m ∷ key) n at) under)
 
@@ -110,7 +111,8 @@ section_followed : (xs : List Named) (line : ℕ) (end : Address → List Named)
 section_followed xs line end ends n [] at a b = ends (child at n) a b
 section_followed xs line end ends n (m ∷ more) at a b = section_followed xs line end ends m more (entered xs (child at n)) a b
 
-header_section : (xs : List Named) (line : ℕ) (e : Expr) → IsHeaderLine e → (a b : Address) → section_from a (named_by xs line e) ≡ section_from b (named_by xs line e)
+header_section : (xs : List Named) (line : ℕ) (e : Expr) → IsHeaderLine e → (a b : Address)
+    → section_from a (named_by xs line e) ≡ section_from b (named_by xs line e)
 header_section xs line (BlankLine t) is a b = absurd is
 header_section xs line (KeyValLine ws pair tail) is a b = absurd is
 header_section xs line (TableLine ws header tail) is a b =

@@ -1,152 +1,54 @@
--- The units after the header line of a new section.
-use Rattle.std.proofs.Common.{◌≡◌, inl, inr, ℕ, ◌+◌, ◌-◌, ◌==◌, ◌&&◌, true, false, cond, Option, Some, None, List, [], ◌∷◌, ◌++◌, map}
-use Rattle.std.proofs.Common.{refl, sym, ap, ap₂, ◌∙◌, subst, subst₂, true≢false, append_assoc, append-nil, arith}
-use Rattle.std.specs.List.{flat_map, join_by}
-use Rattle.std.specs.Prelude.{option_map}
-use Rattle.std.proofs.Math.Bool.{and-false}
+-- The units after a new header line.
+use Rattle.std.proofs.Common.{◌≡◌, ◌⊎◌, inl, inr, ℕ, suc, ◌+◌, Bool, true, false, Option, Some, None, List, [], ◌∷◌, ◌++◌, map, length}
+use Rattle.std.proofs.Common.{refl, sym, ap, ap₂, ◌∙◌, subst, subst₂, true≢false, append_assoc, append-nil, length-append, arith}
+use Rattle.std.specs.List.{flat_map, join_by, list_any}
+use Rattle.std.specs.Prelude.{option_map, slice_get}
 use Rattle.std.proofs.lemmas.Option.{same_Some}
 use Rattle.toml_text.specs.Forms.{IsComment}
 use Rattle.toml_scalar.specs.Spelling.{spelled}
 use Rattle.toml_tree.specs.Bare.{fresh}
 use Rattle.toml_tree.specs.Pieces.{expr_piece}
 use Rattle.toml_tree.specs.Spells.{AreLines, IsCommentOrNone, IsExpr, Part, all_parts, comment_parts, dotted_parts, expr_parts, joined, key_parts, piece, symbol}
-use Rattle.toml_tree.specs.Tree.{Piece, Blank, Header, Expr, BlankLine, KeyValLine, TableLine, ArrayTableLine, Line}
-use Rattle.toml_names.specs.declared.mentions.mention.Role.TheVariants as roles
-use Rattle.toml_names.specs.model.Addresses.{Address, child, element, same_address}
-use Rattle.toml_names.specs.mentions.Alike.{AreAlike}
-use Rattle.toml_names.specs.mentions.Keys.{Key, key_names, part_name, rest_names}
-use Rattle.toml_names.specs.mentions.Mentions.{Named, count_tables, ends_table, ends_tables, entered, followed, is_tables, named, named_by}
-use Rattle.toml_names.specs.mentions.Mentions.{root, section, section_from, table_at}
-use Rattle.toml_names.specs.mentions.OwnAddresses.{IsHeaderLine}
+use Rattle.toml_tree.specs.Tree.{Piece, Expr, BlankLine, KeyValLine, TableLine, ArrayTableLine, Line}
+use Rattle.toml_names.specs.model.Addresses.{Address, element, same_address}
+use Rattle.toml_names.specs.mentions.Keys.{key_names, part_name, rest_names}
+use Rattle.toml_names.specs.mentions.Mentions.{Named, count_tables, named, named_by, root}
 use Rattle.toml_names.specs.reader.Names.{header_end, own_address}
-use Rattle.toml_names.proofs.Proved.{count-append, section_from-append}
+use Rattle.toml_names.proofs.Proved.{count-append}
 use Rattle.toml_units.specs.Units.{TextUnit, comment_units, inside_line, line_units, units, units_from}
 use Rattle.toml_units.specs.declared.unit.UnitKind.TheVariants as kinds
 use Rattle.toml_layout.specs.Outlines as outline
 use Rattle.toml_layout.specs.TreeOutlines.{line_outline}
-use Rattle.toml_layout.specs.declared.tree.Brackets.TheVariants.{One}
-use Rattle.toml_working.specs.Heading.{dotted_name, header_expr, header_line, header_of, key_named}
+use Rattle.toml_layout.specs.declared.tree.Brackets.{Brackets}
+use Rattle.toml_layout.specs.declared.tree.Brackets.TheVariants.{One, Two}
+use Rattle.toml_working.specs.Heading.{dotted_name, header_expr, header_line, key_named}
 use Rattle.toml_working.specs.Headers.{has_no_bytes, names_of}
 use Rattle.toml_working.specs.Inserting.{has_pair}
-use Rattle.toml_working.specs.Removing.{no_blank}
-use Rattle.toml_editor.specs.UnitBlocks.{header_line_units, header_text}
-use Rattle.toml_editor.proofs.written.Alike.{adds, alike_self, alike_trans, count_cons}
-use Rattle.toml_editor.proofs.written.HeaderPut.{IsPutBefore, IsPutLast, IsSectionPut, ended}
+use Rattle.toml_working.specs.Removing.{empty_line}
+use Rattle.toml_working.specs.Standing.{is_below, standing_from}
+use Rattle.toml_editor.specs.UnitBlocks.{header_line_units, header_text, line_of_nothing}
+use Rattle.toml_editor.proofs.written.Alike.{alike_self}
+use Rattle.toml_editor.proofs.written.Clear.{same_is}
+use Rattle.toml_editor.proofs.written.Counted.{count_array, count_table, one_if}
+use Rattle.toml_editor.proofs.written.CountedAlike.{AreCountedBut, AreUnseen, StandSame, stand_same}
+use Rattle.toml_editor.proofs.written.HeaderPut.{IsApart, IsHeaderPut, IsPutBefore, IsPutBlank, IsPutLast, ended}
 use Rattle.toml_editor.proofs.written.InsertSpaced.{line_formed}
 use Rattle.toml_editor.proofs.written.LastLines.{LastIsFull, full_inner, full_line, tail_no_line}
-use Rattle.toml_editor.proofs.written.UnitsAlike.{step_alike, units_alike}
-use Rattle.toml_editor.proofs.written.UnitsPut.{IsPutWell, formed_well, put_among, put_before, put_last}
+use Rattle.toml_editor.proofs.written.PutStands.{stand_alike}
+use Rattle.toml_editor.proofs.written.UnitsPut.{IsPutWell, among_back, formed_well, put_among, put_before, put_end, put_last}
 use Rattle.toml_editor.proofs.written.WayFits.{newlines}
 
--- ---- behind lists with the same counts
+-- ---- lines that stand at the same addresses, in the same tables, have the same units
 
--- each array of tables has as many tables in the one list as in the other
-abbrev pub AreCountedAlike : List Named → List Named → Type 0
-AreCountedAlike xs ys = (at : Address) → count_tables xs at ≡ count_tables ys at
+-- the units of a line by its address and its base
+abbrev units_at : Expr → Option Address → Option ℕ → List TextUnit
+units_at e a base = record { kind = kinds.Line; piece = expr_piece e; address = a; base = base } ∷ inside_line a e
 
--- The end of a header is the section behind it, whatever that was before, and its address.
-section_ends : (key : Key) (line : ℕ) (ms : List Named) (end : Address → List Named) (n : List ℕ) (from a : Address)
-    → section_from a (followed line ms end from (n ∷ key)) ≡ section_from a (end (header_end ms from (n ∷ key)))
-section_ends [] line ms end n from a = refl
-section_ends (m ∷ key) line ms end n from a = section_ends key line ms end m (entered ms (child from n)) a
-
-own_is_section : (ms : List Named) (line : ℕ) (e : Expr) → IsHeaderLine e → (a : Address) → own_address ms e ≡ Some (section_from a (named_by ms line e))
-own_is_section ms line (BlankLine t) is a = absurd is
-own_is_section ms line (KeyValLine ws k t) is a = absurd is
-own_is_section ms line (TableLine ws h t) is a = ap Some (sym (section_ends (rest_names h.key.rest) line ms (ends_table line) (part_name h.key.first) [] a))
-own_is_section ms line (ArrayTableLine ws h t) is a = ap Some (sym (section_ends (rest_names h.key.rest) line ms (ends_tables line ms) (part_name h.key.first) [] a))
-
--- the units of a header line at an address
-abbrev units_at : Expr → Option Address → List TextUnit
-units_at e a = record { kind = kinds.Line; piece = expr_piece e; address = a; base = None } ∷ inside_line a e
-
-module _ (xs ys : List Named) (counts : AreCountedAlike xs ys) where
-  followed_counted : (key : Key) (line : ℕ) (e f : Address → List Named) (at : Address) → ((here : Address) → e here ≡ f here)
-      → followed line xs e at key ≡ followed line ys f at key
-  followed_counted [] line e f at same = refl
-  followed_counted (n ∷ []) line e f at same = same (child at n)
-  followed_counted (n ∷ m ∷ more) line e f at same =
-      ap (λ k. passing (cond (k == 0) (child at n) (element (child at n) (k - 1)))) (counts (child at n))
-      ∙ ap (λ r. table_at line roles.Passed (entered ys (child at n)) ∷ r) (followed_counted (m ∷ more) line e f (entered ys (child at n)) same)
-    where
-      passing : Address → List Named
-      passing here = table_at line roles.Passed here ∷ followed line xs e here (m ∷ more)
-
-  -- a header names the same behind both, and has the same address
-  names_counted : (line : ℕ) (e : Expr) → IsHeaderLine e → named_by xs line e ≡ named_by ys line e
-  names_counted line (BlankLine t) is = absurd is
-  names_counted line (KeyValLine ws k t) is = absurd is
-  names_counted line (TableLine ws h t) is = followed_counted (key_names h.key) line (ends_table line) (ends_table line) [] (λ here. refl)
-  names_counted line (ArrayTableLine ws h t) is = followed_counted (key_names h.key) line (ends_tables line xs) (ends_tables line ys) [] (λ here. rw (counts here) refl)
-
-  own_counted : (e : Expr) → IsHeaderLine e → own_address xs e ≡ own_address ys e
-  own_counted e is = own_is_section xs 0 e is [] ∙ ap (λ ms. Some (section_from [] ms)) (names_counted 0 e is) ∙ sym (own_is_section ys 0 e is [])
-
-  -- behind it the lists are alike
-  pub header_alike : (n m : ℕ) (e : Expr) → IsHeaderLine e → AreAlike (xs ++ named_by xs n e) (ys ++ named_by ys m e)
-  header_alike n m e is =
-      alike_trans (xs ++ named_by xs n e) (ys ++ named_by ys n e) (ys ++ named_by ys m e)
-      (subst (λ r. AreAlike (xs ++ r) (ys ++ named_by ys n e)) (sym (names_counted n e is)) alike) (step_alike ys ys n m e (alike_self ys))
-    where
-      same : section_from (section xs) (named_by ys n e) ≡ section_from (section ys) (named_by ys n e)
-      same = same_Some _ _ (sym (own_is_section ys n e is (section xs)) ∙ own_is_section ys n e is (section ys))
-
-      alike : AreAlike (xs ++ named_by ys n e) (ys ++ named_by ys n e)
-      alike = record {
-        sections = section_from-append xs (named_by ys n e) [] ∙ same ∙ sym (section_from-append ys (named_by ys n e) []);
-        counts = λ at. count-append xs (named_by ys n e) at ∙ ap (λ k. k + count_tables (named_by ys n e) at) (counts at) ∙ sym (count-append ys (named_by ys n e) at);
-      }
-
-  -- and its units are the same
-  header_same : (e : Expr) → IsHeaderLine e → line_units xs e ≡ line_units ys e
-  header_same (BlankLine t) is = absurd is
-  header_same (KeyValLine ws k t) is = absurd is
-  header_same (TableLine ws h t) is = ap (units_at (TableLine ws h t)) (own_counted (TableLine ws h t) tt)
-  header_same (ArrayTableLine ws h t) is = ap (units_at (ArrayTableLine ws h t)) (own_counted (ArrayTableLine ws h t) tt)
-
--- lines that have no key before their first header have the same units behind both
-pub units_unkeyed : (ls : List Line) (xs ys : List Named) (n m : ℕ) → AreCountedAlike xs ys → has_pair ls ≡ false → units_from xs n ls ≡ units_from ys m ls
-units_unkeyed [] xs ys n m counts none = refl
-units_unkeyed (l ∷ ls) xs ys n m counts none = by l.expr none (λ h. units_unkeyed ls (xs ++ []) (ys ++ []) (n + 1) (m + 1) longer h)
-  where
-    longer : AreCountedAlike (xs ++ []) (ys ++ [])
-    longer at = ap (λ ms. count_tables ms at) (append-nil xs) ∙ counts at ∙ ap (λ ms. count_tables ms at) (sym (append-nil ys))
-
-    header : (e : Expr) → IsHeaderLine e
-        → line_units xs e ++ units_from (xs ++ named_by xs n e) (n + 1) ls ≡ line_units ys e ++ units_from (ys ++ named_by ys m e) (m + 1) ls
-    header e is =
-        ap₂ (λ s t. s ++ t) (header_same xs ys counts e is)
-        (units_alike ls (xs ++ named_by xs n e) (ys ++ named_by ys m e) (n + 1) (m + 1) (header_alike xs ys counts n m e is))
-
-    by : (e : Expr)
-        → elim e [ BlankLine b ↦ has_pair ls | KeyValLine ws k tail ↦ true | TableLine ws h tail ↦ false | ArrayTableLine ws h tail ↦ false ] ≡ false
-        → (has_pair ls ≡ false → units_from (xs ++ []) (n + 1) ls ≡ units_from (ys ++ []) (m + 1) ls)
-        → line_units xs e ++ units_from (xs ++ named_by xs n e) (n + 1) ls ≡ line_units ys e ++ units_from (ys ++ named_by ys m e) (m + 1) ls
-    by (BlankLine b) h more = ap (λ r. line_units xs (BlankLine b) ++ r) (more h)
-    by (KeyValLine ws pair tail) h more = absurd (true≢false h)
-    by (TableLine ws k tail) h more = header (TableLine ws k tail) tt
-    by (ArrayTableLine ws k tail) h more = header (ArrayTableLine ws k tail) tt
-
--- the header of a table changes no count
-plain_adds : (at : Address) (m : Named) → is_tables m.role ≡ false → adds at m ≡ 0
-plain_adds at m plain =
-    ap (λ b. cond {A = ℕ} (same_address m.address at && b) 1 0) plain ∙ ap (λ b. cond {A = ℕ} b 1 0) (and-false (same_address m.address at))
-
-no_tables : (key : Key) (line : ℕ) (ms : List Named) (n : List ℕ) (from at : Address) → count_tables (followed line ms (ends_table line) from (n ∷ key)) at ≡ 0
-no_tables [] line ms n from at =
-    let here = table_at line roles.Header (child from n) in
-    count_cons here [] at ∙ ap (λ k. k + 0) (plain_adds at here refl)
-no_tables (m ∷ key) line ms n from at =
-    let here = table_at line roles.Passed (entered ms (child from n)) in
-    let rest = followed line ms (ends_table line) (entered ms (child from n)) (m ∷ key) in
-    count_cons here rest at ∙ ap₂ (λ x y. x + y) (plain_adds at here refl) (no_tables key line ms m (entered ms (child from n)) at)
-
-pub table_counted : (xs : List Named) (line : ℕ) (ws : Piece) (h : Header) (t : Blank) → AreCountedAlike xs (xs ++ named_by xs line (TableLine ws h t))
-table_counted xs line ws h t at =
-    let new = named_by xs line (TableLine ws h t) in
-    let none : count_tables new at ≡ 0 = no_tables (rest_names h.key.rest) line xs (part_name h.key.first) [] at in
-    let all = count-append xs new at in
-    omega (arith, none, all)
+units_same : (ls : List Line) (xs ys : List Named) (n m : ℕ) → StandSame ls xs ys n m → units_from xs n ls ≡ units_from ys m ls
+units_same [] xs ys n m same = refl
+units_same (l ∷ ls) xs ys n m same =
+    ap₂ (λ s t. s ++ t) (ap₂ (units_at l.expr) same.0 same.1)
+    (units_same ls (xs ++ named_by xs n l.expr) (ys ++ named_by ys m l.expr) (n + 1) (m + 1) same.2)
 
 -- ---- a line that has a byte and no newline has one before its end
 
@@ -183,55 +85,175 @@ key_is : (names : List (List ℕ)) (ps : List Part) → joined (key_parts (key_n
 key_is [] ps = refl
 key_is (n ∷ names) ps = ap (λ r. spelled n ++ r) (dotted_is names ps) ∙ sym (append_assoc (spelled n) (dotted names) (joined ps))
 
-module _ (p : Address) (ws : List ℕ) where
-  abbrev e : Expr
-  e = header_expr One p ws
+-- ---- a new header line
 
-  text_is : joined (expr_parts e) ≡ header_text ws p
-  text_is =
-      let closing = piece (fresh []) ∷ symbol (0x5D ∷ []) ∷ [] in
-      let key = key_parts (key_named (names_of p)) in
-      ap (λ r. ws ++ 0x5B ∷ r) (ap joined (append_assoc key closing (piece (fresh []) ∷ [])) ∙ key_is (names_of p) (closing ++ piece (fresh []) ∷ []))
+-- one line came alone
+abbrev pub IsOneMore : List Line → List Line → Type 0
+IsOneMore old new = length new ≡ length old + 1
 
-  abbrev pub header_units : List TextUnit
-  header_units = header_line_units (fresh (header_text ws p)) p
+module _ (brackets : Brackets) (p : Address) (ws : List ℕ) where
+  abbrev pub header_block : List TextUnit
+  header_block = header_line_units (fresh (header_text brackets ws p)) p
 
-  new_units : (xs : List Named) → own_address xs e ≡ Some p → line_units xs e ≡ header_units
-  new_units xs leads =
-      ap (units_at e) leads ∙ ap (λ t. header_line_units (fresh t) p) text_is
+  -- the units are those of before and the line's
+  abbrev pub IsPutAlone : List Line → List Line → Type 0
+  IsPutAlone old new = IsPutWell (AreLines old) (units old) header_block (units new) (newlines old) (newlines new)
 
-  -- ---- where it is put in
+  -- those of before, behind them the line's and one of a last line of no bytes
+  abbrev pub IsPutParted : List Line → List Line → Type 0
+  IsPutParted old new =
+      (well : IsPutWell (IsOneMore old new) (units old) (header_block ++ line_of_nothing ∷ []) (units new) (newlines old) (newlines new))
+      × (well.put.back ≡ [])
 
-  module _ (style : List ℕ) where
-    abbrev Well : List Line → List Line → Type 0
-    Well old new = IsPutWell (AreLines old) (units old) header_units (units new) (newlines old) (newlines new)
+-- its units
+new_units : (brackets : Brackets) (p : Address) (ws : List ℕ) (xs : List Named) → own_address xs (header_expr brackets p ws) ≡ Some p
+    → line_units xs (header_expr brackets p ws) ≡ header_block brackets p ws
+new_units One p ws xs leads =
+    ap (λ a. units_at (header_expr One p ws) a None) leads ∙ ap (λ t. header_line_units (fresh t) p) text_is
+  where
+    text_is : joined (expr_parts (header_expr One p ws)) ≡ header_text One ws p
+    text_is =
+        let closing = piece (fresh []) ∷ symbol (0x5D ∷ []) ∷ [] in
+        let key = key_parts (key_named (names_of p)) in
+        ap (λ r. ws ++ 0x5B ∷ r) (ap joined (append_assoc key closing (piece (fresh []) ∷ [])) ∙ key_is (names_of p) (closing ++ piece (fresh []) ∷ []))
+new_units Two p ws xs leads =
+    ap (λ a. units_at (header_expr Two p ws) a None) leads ∙ ap (λ t. header_line_units (fresh t) p) text_is
+  where
+    text_is : joined (expr_parts (header_expr Two p ws)) ≡ header_text Two ws p
+    text_is =
+        let closing = piece (fresh []) ∷ symbol (0x5D ∷ []) ∷ [] in
+        let other = symbol (0x5D ∷ []) ∷ [] in
+        let key = key_parts (key_named (names_of p)) in
+        ap (λ r. ws ++ 0x5B ∷ 0x5B ∷ r)
+        (ap joined
+        (append_assoc (key ++ closing) other (piece (fresh []) ∷ []) ∙ append_assoc key closing (other ++ piece (fresh []) ∷ []))
+        ∙ key_is (names_of p) (closing ++ (other ++ piece (fresh []) ∷ [])))
 
-    well_before : (front back old new : List Line) → IsPutBefore p style ws front back old new → own_address (named front) e ≡ Some p
-        → has_pair back ≡ false → Well old new
-    well_before front [] old new put leads unkeyed = absurd (put.some refl)
-    well_before front (m ∷ ms) old new put leads unkeyed =
-        subst₂ Well (sym put.was) (sym put.is)
-        (put_among (AreLines (front ++ m ∷ ms)) header_units m ms (header_line One p ws style ∷ m ∷ ms) [] (λ xs. own_address xs e ≡ Some p)
-        (λ xs n there. put_before (AreLines (front ++ m ∷ ms)) e header_units xs n n (m ∷ ms) style (new_units xs there)
-        (units_unkeyed (m ∷ ms) xs (xs ++ named_by xs n e) n (n + 1) (table_counted xs n (fresh ws) (header_of p) no_blank) unkeyed))
-        front (root ∷ []) 0 (ap (λ ls. own_address (named ls) e) (append-nil front) ∙ leads))
+-- Behind it lines that are apart from it are counted alike.
+abbrev IsApartIn : Brackets → Address → List Line → List Named → Type 0
+IsApartIn One p back xs = Unit {0}
+IsApartIn Two p back xs = (q : Address) (i : ℕ) → p ≡ element q i → list_any (is_below q) (standing_from xs 0 back) ≡ false
 
-    well_last : (front back old new : List Line) → IsPutLast p style ws front back old new → own_address (named front) e ≡ Some p → Well old new
-    well_last front back old new put leads =
-        let l = put.last in
-        let was = put.before ++ l ∷ [] in
-        let made = put.before ++ ended style l ∷ header_line One p ws [] ∷ [] in
-        subst₂ Well (sym put.was) (sym put.is)
-        (formed_well (IsExpr l.expr) (AreLines was) (units was) (units made) header_units (newlines was) (newlines made) (line_formed put.before [] l)
-        (put_among (IsExpr l.expr) header_units l [] (ended style l ∷ header_line One p ws [] ∷ []) (l ∷ []) (λ xs. own_address xs e ≡ Some p)
-        (λ xs n there. put_last (IsExpr l.expr) l e header_units xs n style (new_units (xs ++ named_by xs n l.expr) there) (last_full xs l put.full put.no_newline))
-        put.before (root ∷ []) 0 (ap (λ ls. own_address (named ls) e) (sym put.front_is) ∙ leads)))
+apart_in : (brackets : Brackets) (p : Address) (front back : List Line) → IsApart brackets p front back → IsApartIn brackets p back (named front)
+apart_in One p front back apart = tt
+apart_in Two p front back apart =
+    λ q i is. ap (list_any (is_below q)) (stand_alike back (named front) (named front) 0 (length front) (alike_self (named front))) ∙ apart q i is
 
--- The units after the header line of a new section are those of before and the line's. The lines in front and behind keep their newlines, but
--- for that of a last line.
-pub section_units : (q : Address) (name style : List ℕ) (old new : List Line) → (put : IsSectionPut (child q name) style old new) → AreLines old
-    → IsPutWell (AreLines old) (units old) (header_line_units (fresh (header_text put.ws (child q name))) (child q name)) (units new) (newlines old) (newlines new)
-section_units q name style old new put formed = elim put.put [
-  | inl before ↦ well_before (child q name) put.ws style put.front put.back old new before put.leads put.unkeyed
-  | inr last ↦ well_last (child q name) put.ws style put.front put.back old new last put.leads
+header_counted : (brackets : Brackets) (p : Address) (ws : List ℕ) (back : List Line) (xs : List Named) (n : ℕ)
+    → own_address xs (header_expr brackets p ws) ≡ Some p → IsApartIn brackets p back xs
+    → AreCountedBut (AreUnseen (standing_from xs n back)) xs (xs ++ named_by xs n (header_expr brackets p ws))
+header_counted One p ws back xs n leads apart at =
+    let new = named_by xs n (header_expr One p ws) in
+    let key = key_named (names_of p) in
+    let none : count_tables new at ≡ 0 = count_table xs n at (part_name key.first) (rest_names key.rest) in
+    let all = count-append xs new at in
+    inr (omega (arith, none, all))
+header_counted Two p ws back xs n leads apart at = by (same_address array at) refl
+  where
+    new : List Named
+    new = named_by xs n (header_expr Two p ws)
+
+    array : Address
+    array = header_end xs [] (key_names (key_named (names_of p)))
+
+    by : (b : Bool) → same_address array at ≡ b → AreUnseen (standing_from xs n back) at ⊎ (count_tables xs at ≡ count_tables (xs ++ new) at)
+    by true same =
+        inl (ap (list_any (is_below at)) (stand_alike back xs xs n 0 (alike_self xs))
+        ∙ subst (λ x. list_any (is_below x) (standing_from xs 0 back) ≡ false) (same_is array at same)
+            (apart array (count_tables xs array) (sym (same_Some _ p leads))))
+    by false other =
+        let key = key_named (names_of p) in
+        let none : count_tables new at ≡ 0 = count_array xs n at (part_name key.first) (rest_names key.rest) ∙ ap one_if other in
+        let all = count-append xs new at in
+        inr (omega (arith, none, all))
+
+-- ---- where it is put in
+
+module _ (brackets : Brackets) (p : Address) (style ws : List ℕ) where
+  abbrev header : Expr
+  header = header_expr brackets p ws
+
+  abbrev block : List TextUnit
+  block = header_block brackets p ws
+
+  abbrev Leads : List Line → Type 0
+  Leads front = own_address (named front) header ≡ Some p
+
+  abbrev Alone : List Line → List Line → Type 0
+  Alone = IsPutAlone brackets p ws
+
+  abbrev Parted : List Line → List Line → Type 0
+  Parted = IsPutParted brackets p ws
+
+  well_before : (front back old new : List Line) → IsPutBefore brackets p style ws front back old new → Leads front → has_pair back ≡ false
+      → IsApart brackets p front back → Alone old new
+  well_before front [] old new put leads unkeyed apart = absurd (put.some refl)
+  well_before front (m ∷ ms) old new put leads unkeyed apart =
+      subst₂ Alone (sym put.was) (sym put.is)
+      (put_among (AreLines (front ++ m ∷ ms)) block m ms (header_line brackets p ws style ∷ m ∷ ms) []
+      (λ xs. (own_address xs header ≡ Some p) × IsApartIn brackets p (m ∷ ms) xs)
+      (λ xs n there. put_before (AreLines (front ++ m ∷ ms)) header block xs n n (m ∷ ms) style (new_units brackets p ws xs there.0)
+      (units_same (m ∷ ms) xs (xs ++ named_by xs n header) n (n + 1)
+      (stand_same (m ∷ ms) xs (xs ++ named_by xs n header) n (n + 1) (inr unkeyed) (header_counted brackets p ws (m ∷ ms) xs n there.0 there.1))))
+      front (root ∷ []) 0
+      (subst (λ ls. (own_address (named ls) header ≡ Some p) × IsApartIn brackets p (m ∷ ms) (named ls)) (sym (append-nil front))
+      (leads, apart_in brackets p front (m ∷ ms) apart)))
+
+  well_last : (front back old new : List Line) → IsPutLast brackets p style ws front back old new → Leads front → Alone old new
+  well_last front back old new put leads =
+      let l = put.last in
+      let was = put.before ++ l ∷ [] in
+      let made = put.before ++ ended style l ∷ header_line brackets p ws [] ∷ [] in
+      subst₂ Alone (sym put.was) (sym put.is)
+      (formed_well (IsExpr l.expr) (AreLines was) (units was) (units made) block (newlines was) (newlines made) (line_formed put.before [] l)
+      (put_among (IsExpr l.expr) block l [] (ended style l ∷ header_line brackets p ws [] ∷ []) (l ∷ []) (λ xs. own_address xs header ≡ Some p)
+      (λ xs n there.
+      put_last (IsExpr l.expr) l header block xs n style (new_units brackets p ws (xs ++ named_by xs n l.expr) there) (last_full xs l put.full put.no_newline))
+      put.before (root ∷ []) 0 (ap (λ ls. own_address (named ls) header) (sym put.front_is) ∙ leads)))
+
+  well_blank : (front back old new : List Line) → IsPutBlank brackets p style ws front back old new → Leads front → Parted old new
+  well_blank front back old new put leads = subst₂ Parted (sym put.was) (sym put.is) (
+    put_among Firm both l [] lines (l ∷ []) Here here put.before (root ∷ []) 0 there,
+    among_back Firm both l [] lines (l ∷ []) Here here (λ xs n at. refl) put.before (root ∷ []) 0 there,
+  )
+    where
+      l : Line
+      l = put.last
+
+      lines : List Line
+      lines = ended style l ∷ header_line brackets p ws style ∷ empty_line ∷ []
+
+      both : List TextUnit
+      both = block ++ line_of_nothing ∷ []
+
+      Firm : Type 0
+      Firm = IsOneMore (put.before ++ l ∷ []) (put.before ++ lines)
+
+      two_more : ¬ Firm
+      two_more firm =
+          let one = length-append put.before (l ∷ []) in
+          let three = length-append put.before lines in
+          omega (arith, firm, one, three)
+
+      Here : List Named → Type 0
+      Here xs = own_address xs header ≡ Some p
+
+      here : (xs : List Named) (n : ℕ) → Here (xs ++ named_by xs n l.expr)
+          → IsPutWell Firm (units_from xs n (l ∷ [])) both (units_from xs n lines) (newlines (l ∷ [])) (newlines lines)
+      here xs n at =
+          put_end Firm l both (line_units (xs ++ named_by xs n l.expr) header ++ line_of_nothing ∷ []) xs style (style ∷ [] ∷ [])
+          (ap (λ us. us ++ line_of_nothing ∷ []) (new_units brackets p ws (xs ++ named_by xs n l.expr) at))
+          (λ a. ap (slice_get (style ∷ [] ∷ [])) (let e : 2 + a ≡ suc (suc a) = omega arith in e)) (λ firm. absurd (two_more firm))
+
+      there : own_address (named (put.before ++ l ∷ [])) header ≡ Some p
+      there = ap (λ ls. own_address (named ls) header) (sym put.front_is) ∙ leads
+
+-- The units after a new header line are those of before and the line's; behind a blank line, also a last line of no bytes. The lines in front
+-- and behind keep their newlines, but for that of a last line.
+pub header_units : (brackets : Brackets) (p : Address) (style : List ℕ) (old new : List Line) (put : IsHeaderPut brackets p style old new)
+    → IsPutAlone brackets p put.ws old new ⊎ IsPutParted brackets p put.ws old new
+header_units brackets p style old new put = elim put.put [
+  | inl before ↦ inl (well_before brackets p style put.ws put.front put.back old new before put.leads put.unkeyed put.apart)
+  | inr (inl last) ↦ inl (well_last brackets p style put.ws put.front put.back old new last put.leads)
+  | inr (inr blank) ↦ inr (well_blank brackets p style put.ws put.front put.back old new blank put.leads)
 ]

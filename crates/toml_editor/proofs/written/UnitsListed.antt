@@ -79,7 +79,7 @@ module _ (ends : List (List ℕ)) where
       goes = site_stays u;
       home = λ is. home;
       ends = λ is. same_ends [] ends ends refl a;
-      empty = λ is here none last. last;
+      empty = λ firm is here none last. last;
       header = λ is none gone. absurd (true≢false (sym (all_here line u) ∙ gone));
     },
     none_keeps us (next_line line (site u)) (next_line next (site u)) (line_goes [] line next u u (site_stays u) (inl home))

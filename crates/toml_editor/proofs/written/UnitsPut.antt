@@ -39,7 +39,7 @@ lines_first (l ∷ ls) xs n = refl
 pub record IsPutWell (Formed : Type 0) (old block new : List TextUnit) (before after : List (List ℕ)) : Type 0 where
   pub put : IsBlockPut old block new
   pub front_ends : (a : ℕ) → a < lines_in put.front → (slice_get before a ≡ slice_get after a) ⊎ (a + 1 ≡ length before)
-  pub back_ends : (a : ℕ) → slice_get before (lines_in put.front + a) ≡ slice_get after (lines_in put.front + suc a)
+  pub back_ends : (a : ℕ) → slice_get before (lines_in put.front + a) ≡ slice_get after (lines_in put.front + (lines_in block + a))
   pub full : Formed → put.back ≡ [] → LastIsFull put.front
 
 one_and : {n : ℕ} → n ≡ 0 → 1 + n ≡ 1
@@ -61,7 +61,7 @@ some_lines : (xs : List Named) (n : ℕ) (l : Line) (ls : List Line) → 0 < lin
 some_lines xs n l ls = let both = lines_append (line_units xs l.expr)
     (units_from (xs ++ named_by xs n l.expr) (n + 1) ls) in let one = line_lines xs l.expr in omega (arith, both, one)
 
-put_behind : (Formed : Type 0) (us old block new : List TextUnit) (before after : List (List ℕ)) (newline : List ℕ) → lines_in us ≡ 1 → 0 < lines_in old
+abbrev put_behind : (Formed : Type 0) (us old block new : List TextUnit) (before after : List (List ℕ)) (newline : List ℕ) → lines_in us ≡ 1 → 0 < lines_in old
     → IsPutWell Formed old block new before after
     → IsPutWell Formed (us ++ old) block (us ++ new) (newline ∷ before) (newline ∷ after)
 put_behind Formed us old block new before after newline one some h =
@@ -79,7 +79,7 @@ put_behind Formed us old block new before after newline one some h =
       back_ends = λ a.
           ap (slice_get (newline ∷ before)) (let e : lines_in (us ++ put.front) + a ≡ suc (lines_in put.front + a) = omega (arith, all) in e)
           ∙ h.back_ends a
-          ∙ ap (slice_get (newline ∷ after)) (let e : suc (lines_in put.front + suc a) ≡ lines_in (us ++ put.front) + suc a = omega (arith, all) in e);
+          ∙ ap (slice_get (newline ∷ after)) (let e : suc (lines_in put.front + (lines_in block + a)) ≡ lines_in (us ++ put.front) + (lines_in block + a) = omega (arith, all) in e);
       full = λ formed none.
           let is : lines_in old ≡ lines_in put.front = ap lines_in (put.before ∙ ap (λ b. put.front ++ b) none ∙ append-nil put.front) in
           full_behind us put.front (omega (arith, some, is)) (h.full formed none);
@@ -107,30 +107,43 @@ put_before Formed e block xs n m ls ending own same = record {
   front_ends = λ a low. let e : ⊥ = omega (arith, low) in absurd e;
   back_ends = λ a.
       ap (slice_get (newlines ls)) (let e : 0 + a ≡ a = omega arith in e)
-      ∙ ap (slice_get (ending ∷ newlines ls)) (let e : suc a ≡ 0 + suc a = omega arith in e);
+      ∙ ap (slice_get (ending ∷ newlines ls)) (let one = one_block own in let e : suc a ≡ 0 + (lines_in block + a) = omega (arith, one) in e);
   full = λ formed none. tt;
 }
+  where
+    one_block : line_units xs e ≡ block → lines_in block ≡ 1
+    one_block is = ap lines_in (sym is) ∙ line_lines xs e
 
 -- behind a last line, which gets a newline
-pub put_last : (Formed : Type 0) (l : Line) (e : Expr) (block : List TextUnit) (xs : List Named) (n : ℕ) (ending : List ℕ)
-    → line_units (xs ++ named_by xs n l.expr) e ≡ block → (Formed → LastIsFull (line_units xs l.expr))
-    → IsPutWell Formed (line_units xs l.expr ++ []) block (line_units xs l.expr ++ (line_units (xs ++ named_by xs n l.expr) e ++ []))
-    (l.newline.text ∷ []) (ending ∷ [] ∷ [])
-put_last Formed l e block xs n ending own full = record {
+abbrev pub put_end : (Formed : Type 0) (l : Line) (block us : List TextUnit) (xs : List Named) (ending : List ℕ) (ends : List (List ℕ)) → us ≡ block
+    → ((a : ℕ) → slice_get ends (lines_in block + a) ≡ None) → (Formed → LastIsFull (line_units xs l.expr))
+    → IsPutWell Formed (line_units xs l.expr ++ []) block (line_units xs l.expr ++ us) (l.newline.text ∷ []) (ending ∷ ends)
+put_end Formed l block us xs ending ends own past full = record {
   put = record {
     front = line_units xs l.expr;
     back = [];
     before = refl;
-    after = ap (λ b. line_units xs l.expr ++ (b ++ [])) own;
+    after = ap (λ b. line_units xs l.expr ++ b) (own ∙ sym (append-nil block));
     next = tt;
   };
   front_ends = λ a low. let one = line_lines xs l.expr in inr (omega (arith, low, one));
-  back_ends = λ a. ap (slice_get (l.newline.text ∷ [])) (count a) ∙ ap (slice_get (ending ∷ [] ∷ [])) (sym (count (suc a)));
+  back_ends = λ a.
+      ap (slice_get (l.newline.text ∷ [])) (count a) ∙ sym (past a) ∙ ap (slice_get (ending ∷ ends)) (sym (count (lines_in block + a)));
   full = λ formed none. full formed;
 }
   where
     count : (a : ℕ) → lines_in (line_units xs l.expr) + a ≡ suc a
     count a = let one = line_lines xs l.expr in omega (arith, one)
+
+-- one line
+pub put_last : (Formed : Type 0) (l : Line) (e : Expr) (block : List TextUnit) (xs : List Named) (n : ℕ) (ending : List ℕ)
+    → line_units (xs ++ named_by xs n l.expr) e ≡ block → (Formed → LastIsFull (line_units xs l.expr))
+    → IsPutWell Formed (line_units xs l.expr ++ []) block (line_units xs l.expr ++ (line_units (xs ++ named_by xs n l.expr) e ++ []))
+    (l.newline.text ∷ []) (ending ∷ [] ∷ [])
+put_last Formed l e block xs n ending own full =
+    let one : lines_in block ≡ 1 = ap lines_in (sym own) ∙ line_lines (xs ++ named_by xs n l.expr) e in
+    put_end Formed l block (line_units (xs ++ named_by xs n l.expr) e ++ []) xs ending ([] ∷ []) (append-nil (line_units (xs ++ named_by xs n l.expr) e) ∙ own)
+    (λ a. ap (slice_get ([] ∷ [])) (let e : lines_in block + a ≡ suc a = omega (arith, one) in e)) full
 
 -- where it is put in so behind what was named before, and with some lines, it is behind all lines in front
 module _ (Formed : Type 0) (block : List TextUnit) (l : Line) (back new some : List Line) (Here : List Named → Type 0)
@@ -146,6 +159,13 @@ module _ (Formed : Type 0) (block : List TextUnit) (l : Line) (back new some : L
   put_among (m ∷ front) xs n there =
       put_behind Formed (line_units xs m.expr) _ block _ (newlines (front ++ l ∷ back)) (newlines (front ++ new)) m.newline.text (line_lines xs m.expr)
       (some_units front (xs ++ named_by xs n m.expr) (n + 1)) (put_among front (xs ++ named_by xs n m.expr) (n + 1) there)
+
+  -- all stands in front of it, if it does so where it is put in
+  pub among_back : ((xs : List Named) (n : ℕ) (there : Here (named_from xs n some)) → (here xs n there).put.back ≡ [])
+      → (front : List Line) (xs : List Named) (n : ℕ) (there : Here (named_from xs n (front ++ some))) → (put_among front xs n there).put.back ≡ []
+  unfolding put_among
+  among_back none [] xs n there = none xs n there
+  among_back none (m ∷ front) xs n there = among_back none front (xs ++ named_by xs n m.expr) (n + 1) there
 
 -- the lines in the forms are formed
 pub formed_well : (Formed Other : Type 0) (old new block : List TextUnit) (before after : List (List ℕ)) → (Other → Formed) → IsPutWell Formed old block new before after

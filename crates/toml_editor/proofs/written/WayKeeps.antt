@@ -30,24 +30,45 @@ module _ (cs : List Change) (before after : List (List ℕ)) where
     pub newline : (slice_get before a ≡ slice_get after b) ⊎ (a + 1 ≡ length before)
     pub last : b + 1 ≡ length after → a + 1 ≡ length before
 
-  -- of two units that go together, behind these lines
-  pub record Stays (line next : Option Site) (a b : ℕ) (u w : TextUnit) : Type 0 where
-    pub goes : site w ≡ moved_site cs (site u)
-    pub home : is_comment u.kind ≡ true → next ≡ option_map (moved_site cs) line
-    pub ends : u.kind ≡ kinds.Line → Ends a b
-    pub empty : u.kind ≡ kinds.Line → is_here cs line u ≡ true → u.piece.text ≡ [] → a + 1 ≡ length before → b + 1 ≡ length after
-    pub header : u.kind ≡ kinds.Line → u.base ≡ None → is_here cs line u ≡ false → At w.address (IsOwedBelow cs)
-
   -- a line that comes and has no key is blank, or a header's at or below what the edits put there
   abbrev pub ComesOwed : TextUnit → Type 0
   ComesOwed w = w.kind ≡ kinds.Line → w.base ≡ None → (w.address ≡ None) ⊎ At w.address (IsOwedBelow cs)
 
-  abbrev pub Keeps : Option Site → Option Site → ℕ → ℕ → List Step → Type 0
-  Keeps line next a b [] = Unit {0}
-  Keeps line next a b (both u w ∷ s) =
-      Stays line next a b u w × Keeps (next_line line (site u)) (next_line next (site w)) (a + one_line u.kind) (b + one_line w.kind) s
-  Keeps line next a b (old u ∷ s) = Keeps (next_line line (site u)) next (a + one_line u.kind) b s
-  Keeps line next a b (new w ∷ s) = ComesOwed w × Keeps line (next_line next (site w)) a (b + one_line w.kind) s
+-- `Firm` tells when a last line of no bytes stays the last.
+module _ (Firm : Type 0) (cs : List Change) (before after : List (List ℕ)) where
+  -- of two units that go together, behind these lines
+  pub record StaysIf (line next : Option Site) (a b : ℕ) (u w : TextUnit) : Type 0 where
+    pub goes : site w ≡ moved_site cs (site u)
+    pub home : is_comment u.kind ≡ true → next ≡ option_map (moved_site cs) line
+    pub ends : u.kind ≡ kinds.Line → Ends cs before after a b
+    pub empty : Firm → u.kind ≡ kinds.Line → is_here cs line u ≡ true → u.piece.text ≡ [] → a + 1 ≡ length before → b + 1 ≡ length after
+    pub header : u.kind ≡ kinds.Line → u.base ≡ None → is_here cs line u ≡ false → At w.address (IsOwedBelow cs)
+
+  abbrev pub KeepsIf : Option Site → Option Site → ℕ → ℕ → List Step → Type 0
+  KeepsIf line next a b [] = Unit {0}
+  KeepsIf line next a b (both u w ∷ s) =
+      StaysIf line next a b u w × KeepsIf (next_line line (site u)) (next_line next (site w)) (a + one_line u.kind) (b + one_line w.kind) s
+  KeepsIf line next a b (old u ∷ s) = KeepsIf (next_line line (site u)) next (a + one_line u.kind) b s
+  KeepsIf line next a b (new w ∷ s) = ComesOwed cs before after w × KeepsIf line (next_line next (site w)) a (b + one_line w.kind) s
+
+-- where it always does
+abbrev pub Stays : List Change → List (List ℕ) → List (List ℕ) → Option Site → Option Site → ℕ → ℕ → TextUnit → TextUnit → Type 0
+Stays = StaysIf (Unit {0})
+
+abbrev pub Keeps : List Change → List (List ℕ) → List (List ℕ) → Option Site → Option Site → ℕ → ℕ → List Step → Type 0
+Keeps = KeepsIf (Unit {0})
+
+module _ (Firm Other : Type 0) (firm : Other → Firm) (cs : List Change) (before after : List (List ℕ)) where
+  pub keeps_weaker : (s : List Step) (line next : Option Site) (a b : ℕ) → KeepsIf Firm cs before after line next a b s
+      → KeepsIf Other cs before after line next a b s
+  keeps_weaker [] line next a b keeps = tt
+  keeps_weaker (both u w ∷ s) line next a b keeps =
+      let stays = keeps.0 in (
+        record { goes = stays.goes; home = stays.home; ends = stays.ends; empty = λ other. stays.empty (firm other); header = stays.header },
+        keeps_weaker s (next_line line (site u)) (next_line next (site w)) (a + one_line u.kind) (b + one_line w.kind) keeps.1,
+      )
+  keeps_weaker (old u ∷ s) line next a b keeps = keeps_weaker s (next_line line (site u)) next (a + one_line u.kind) b keeps
+  keeps_weaker (new w ∷ s) line next a b keeps = (keeps.0, keeps_weaker s line (next_line next (site w)) a (b + one_line w.kind) keeps.1)
 
 -- ---- what is protected under an edit and those that follow
 

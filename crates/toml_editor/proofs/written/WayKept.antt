@@ -28,7 +28,7 @@ use Rattle.toml_editor.proofs.written.Way.{Step, both, old, new, olds, news, one
 use Rattle.toml_editor.proofs.written.WayBlock.{line_after, lines_append}
 use Rattle.toml_editor.proofs.written.WayComments.{added}
 use Rattle.toml_editor.proofs.written.WayFits.{newlines}
-use Rattle.toml_editor.proofs.written.WayKeeps.{moved_site, Ends, Stays, ComesOwed, Keeps, line_is, line_goes, site_goes, same_ends, next_after}
+use Rattle.toml_editor.proofs.written.WayKeeps.{moved_site, Ends, Stays, ComesOwed, Keeps, KeepsIf, line_is, line_goes, site_goes, same_ends, next_after}
 use Rattle.toml_editor.proofs.written.WayOwed.{IsOwedBelow}
 use Rattle.toml_editor.proofs.written.WayZip.{zip, lines_in}
 
@@ -75,7 +75,7 @@ module _ (c : Change) (before after : List (List ℕ)) (ends : before ≡ after)
     goes = goes;
     home = λ is. home;
     ends = λ is. same_ends (c ∷ []) before after ends a;
-    empty = λ is here none last. last ∙ ap length ends;
+    empty = λ firm is here none last. last ∙ ap length ends;
     header = λ is none gone. header is none line gone;
   }
 
@@ -113,39 +113,40 @@ same_adds (u ∷ us) = same_adds us
 abbrev pub IsFixed : Change → TextUnit → Type 0
 IsFixed c u = (u.address ≡ option_and_then (carry c) u.address) × HeaderIsOwed c u u
 
-module _ (c : Change) (before after : List (List ℕ)) where
-  abbrev Keep : Option Site → Option Site → ℕ → ℕ → List Step → Type 0
-  Keep = Keeps (c ∷ []) before after
+-- lines, of which the last stays the last, or has a byte
+abbrev LastStays : List (List ℕ) → List (List ℕ) → List TextUnit → ℕ → ℕ → Type 0
+LastStays before after us a b = ((x : ℕ) → x < lines_in us → (a + x) + 1 ≡ length before → (b + x) + 1 ≡ length after)
+    ⊎ (LastIsFull us × (a + lines_in us ≤ length before))
 
-  -- lines, of which the last stays the last, or has a byte
-  abbrev pub LastStays : List TextUnit → ℕ → ℕ → Type 0
-  LastStays us a b = ((x : ℕ) → x < lines_in us → (a + x) + 1 ≡ length before → (b + x) + 1 ≡ length after)
-      ⊎ (LastIsFull us × (a + lines_in us ≤ length before))
+module _ (Firm : Type 0) (c : Change) (before after : List (List ℕ)) where
+  abbrev KeepIf : Option Site → Option Site → ℕ → ℕ → List Step → Type 0
+  KeepIf = KeepsIf Firm (c ∷ []) before after
 
-  pub same_keeps : (us : List TextUnit) → EachIs (IsFixed c) us → (line next : Option Site) → (next ≡ option_map (moved_site (c ∷ [])) line)
+  pub same_keeps_if : (us : List TextUnit) → EachIs (IsFixed c) us → (line next : Option Site) → (next ≡ option_map (moved_site (c ∷ [])) line)
       ⊎ BeginWithLine us → (a b : ℕ)
-      → ((x : ℕ) → x < lines_in us → Ends (c ∷ []) before after (a + x) (b + x)) → LastStays us a b → Keep line next a b (same_way us)
-  same_keeps [] fixed line next home a b ends last = tt
-  same_keeps (u ∷ us) fixed line next home a b ends last =
+      → ((x : ℕ) → x < lines_in us → Ends (c ∷ []) before after (a + x) (b + x)) → (Firm → LastStays before after us a b)
+      → KeepIf line next a b (same_way us)
+  same_keeps_if [] fixed line next home a b ends last = tt
+  same_keeps_if (u ∷ us) fixed line next home a b ends last =
       let goes = site_goes c u u refl fixed.0.0 refl in (
         record {
           goes = goes;
           home = λ is. elim home [ inl is ↦ is | inr line ↦ absurd (true≢false (sym is ∙ ap is_comment line)) ];
           ends = λ is. subst₂ (Ends (c ∷ []) before after) (let e : a + 0 ≡ a = omega arith in e) (let e : b + 0 ≡ b = omega arith in e)
               (ends 0 (some is));
-          empty = λ is here none at_end. elim last [
+          empty = λ firm is here none at_end. elim (last firm) [
             | inl stays ↦ (let e : b + 1 ≡ (b + 0) + 1 = omega arith in e)
                 ∙ stays 0 (some is) ((let e : (a + 0) + 1 ≡ a + 1 = omega arith in e) ∙ at_end)
             | inr (full, low) ↦ let one : one_line u.kind ≡ 1 = ap one_line is in absurd (full.0 is (omega (arith, low, one, at_end)) none)
           ];
           header = λ is none gone. fixed.0.1 is none line gone;
         },
-        same_keeps us fixed.1 (next_line line (site u)) (next_line next (site u)) (inl (line_goes (c ∷ []) line next u u goes home))
+        same_keeps_if us fixed.1 (next_line line (site u)) (next_line next (site u)) (inl (line_goes (c ∷ []) line next u u goes home))
             (a + one_line u.kind) (b + one_line u.kind)
             (λ x low. subst₂ (Ends (c ∷ []) before after) (let e : a + (one_line u.kind + x) ≡ (a + one_line u.kind) + x = omega arith in e)
             (let e : b + (one_line u.kind + x) ≡ (b + one_line u.kind) + x = omega arith in e)
             (ends (one_line u.kind + x) (omega (arith, low))))
-            (elim last [
+            (λ firm. elim (last firm) [
               | inl stays ↦ inl (λ x low at_end.
                   (let e : ((b + one_line u.kind) + x) + 1 ≡ (b + (one_line u.kind + x)) + 1 = omega arith in e)
                   ∙ stays (one_line u.kind + x) (omega (arith, low))
@@ -157,12 +158,52 @@ module _ (c : Change) (before after : List (List ℕ)) where
       some : u.kind ≡ kinds.Line → 0 < one_line u.kind + lines_in us
       some is = let e : one_line u.kind ≡ 1 = ap one_line is in omega (arith, e)
 
-  -- ---- units that come, and units that go
+  -- ---- units that come
+
+  pub new_keeps_if : (ws : List TextUnit) → EachIs (ComesOwed (c ∷ []) before after) ws → (line next : Option Site) (a b : ℕ)
+      → KeepIf line next a b (map new ws)
+  new_keeps_if [] h line next a b = tt
+  new_keeps_if (w ∷ ws) h line next a b = (h.0, new_keeps_if ws h.1 line (next_line next (site w)) a (b + one_line w.kind))
+
+  pub keeps_append_if : (s t : List Step) (line next : Option Site) (a b : ℕ) → KeepIf line next a b s
+      → KeepIf (line_after line s) (next_after next s) (a + lines_in (olds s)) (b + lines_in (news s)) t → KeepIf line next a b (s ++ t)
+  keeps_append_if [] t line next a b h k =
+      subst₂ (λ x y. KeepIf line next x y t) (let e : a + 0 ≡ a = omega arith in e) (let e : b + 0 ≡ b = omega arith in e) k
+  keeps_append_if (both u w ∷ s) t line next a b h k = (
+    h.0,
+    keeps_append_if s t (next_line line (site u)) (next_line next (site w)) (a + one_line u.kind) (b + one_line w.kind) h.1
+        (subst₂ (λ x y. KeepIf (line_after (next_line line (site u)) s) (next_after (next_line next (site w)) s) x y t)
+        (let e : a + (one_line u.kind + lines_in (olds s)) ≡ (a + one_line u.kind) + lines_in (olds s) = omega arith in e)
+        (let e : b + (one_line w.kind + lines_in (news s)) ≡ (b + one_line w.kind) + lines_in (news s) = omega arith in e) k),
+  )
+  keeps_append_if (old u ∷ s) t line next a b h k =
+      keeps_append_if s t (next_line line (site u)) next (a + one_line u.kind) b h
+      (subst (λ x. KeepIf (line_after (next_line line (site u)) s) (next_after next s) x (b + lines_in (news s)) t)
+      (let e : a + (one_line u.kind + lines_in (olds s)) ≡ (a + one_line u.kind) + lines_in (olds s) = omega arith in e) k)
+  keeps_append_if (new w ∷ s) t line next a b h k = (
+    h.0,
+    keeps_append_if s t line (next_line next (site w)) a (b + one_line w.kind) h.1
+        (subst (λ y. KeepIf (line_after line s) (next_after (next_line next (site w)) s) (a + lines_in (olds s)) y t)
+        (let e : b + (one_line w.kind + lines_in (news s)) ≡ (b + one_line w.kind) + lines_in (news s) = omega arith in e) k),
+  )
+
+-- where a last line of no bytes always stays the last
+module _ (c : Change) (before after : List (List ℕ)) where
+  abbrev Keep : Option Site → Option Site → ℕ → ℕ → List Step → Type 0
+  Keep = Keeps (c ∷ []) before after
+
+  pub same_keeps : (us : List TextUnit) → EachIs (IsFixed c) us → (line next : Option Site) → (next ≡ option_map (moved_site (c ∷ [])) line)
+      ⊎ BeginWithLine us → (a b : ℕ)
+      → ((x : ℕ) → x < lines_in us → Ends (c ∷ []) before after (a + x) (b + x)) → LastStays before after us a b → Keep line next a b (same_way us)
+  same_keeps us fixed line next home a b ends last = same_keeps_if (Unit {0}) c before after us fixed line next home a b ends (λ firm. last)
 
   pub new_keeps : (ws : List TextUnit) → EachIs (ComesOwed (c ∷ []) before after) ws → (line next : Option Site) (a b : ℕ)
       → Keep line next a b (map new ws)
-  new_keeps [] h line next a b = tt
-  new_keeps (w ∷ ws) h line next a b = (h.0, new_keeps ws h.1 line (next_line next (site w)) a (b + one_line w.kind))
+  new_keeps = new_keeps_if (Unit {0}) c before after
+
+  pub keeps_append : (s t : List Step) (line next : Option Site) (a b : ℕ) → Keep line next a b s
+      → Keep (line_after line s) (next_after next s) (a + lines_in (olds s)) (b + lines_in (news s)) t → Keep line next a b (s ++ t)
+  keeps_append = keeps_append_if (Unit {0}) c before after
 
   pub inner_blank : (p : Address) (us : List TextUnit) → EachIs (LiesInValue p) us → EachIs (ComesOwed (c ∷ []) before after) us
   inner_blank p [] h = tt
@@ -171,28 +212,6 @@ module _ (c : Change) (before after : List (List ℕ)) where
   pub old_keeps : (us : List TextUnit) (line next : Option Site) (a b : ℕ) → Keep line next a b (map old us)
   old_keeps [] line next a b = tt
   old_keeps (u ∷ us) line next a b = old_keeps us (next_line line (site u)) next (a + one_line u.kind) b
-
-  pub keeps_append : (s t : List Step) (line next : Option Site) (a b : ℕ) → Keep line next a b s
-      → Keep (line_after line s) (next_after next s) (a + lines_in (olds s)) (b + lines_in (news s)) t → Keep line next a b (s ++ t)
-  keeps_append [] t line next a b h k =
-      subst₂ (λ x y. Keep line next x y t) (let e : a + 0 ≡ a = omega arith in e) (let e : b + 0 ≡ b = omega arith in e) k
-  keeps_append (both u w ∷ s) t line next a b h k = (
-    h.0,
-    keeps_append s t (next_line line (site u)) (next_line next (site w)) (a + one_line u.kind) (b + one_line w.kind) h.1
-        (subst₂ (λ x y. Keep (line_after (next_line line (site u)) s) (next_after (next_line next (site w)) s) x y t)
-        (let e : a + (one_line u.kind + lines_in (olds s)) ≡ (a + one_line u.kind) + lines_in (olds s) = omega arith in e)
-        (let e : b + (one_line w.kind + lines_in (news s)) ≡ (b + one_line w.kind) + lines_in (news s) = omega arith in e) k),
-  )
-  keeps_append (old u ∷ s) t line next a b h k =
-      keeps_append s t (next_line line (site u)) next (a + one_line u.kind) b h
-      (subst (λ x. Keep (line_after (next_line line (site u)) s) (next_after next s) x (b + lines_in (news s)) t)
-      (let e : a + (one_line u.kind + lines_in (olds s)) ≡ (a + one_line u.kind) + lines_in (olds s) = omega arith in e) k)
-  keeps_append (new w ∷ s) t line next a b h k = (
-    h.0,
-    keeps_append s t line (next_line next (site w)) a (b + one_line w.kind) h.1
-        (subst (λ y. Keep (line_after line s) (next_after (next_line next (site w)) s) (a + lines_in (olds s)) y t)
-        (let e : b + (one_line w.kind + lines_in (news s)) ≡ (b + one_line w.kind) + lines_in (news s) = omega arith in e) k),
-  )
 
 -- what is in a value has no line
 pub inner_next : (p : Address) (us : List TextUnit) → EachIs (LiesInValue p) us → (next : Option Site) → next_after next (map new us) ≡ next

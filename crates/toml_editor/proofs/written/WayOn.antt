@@ -104,7 +104,7 @@ module _ (c : Change) (cs : List Change) (ts : List (List ℕ)) (more : List (Li
       goes = k.goes ∙ ap (λ (y : TextUnit). moved_site cs (site y)) (sym same);
       home = λ is. k.home (ap is_comment (sym kind_is) ∙ is);
       ends = λ is. k.ends (sym kind_is ∙ is);
-      empty = λ is here none. k.empty (sym kind_is ∙ is) (sym here_is ∙ here) (ap (λ (y : TextUnit). y.piece.text) (sym same) ∙ none);
+      empty = λ firm is here none. k.empty firm (sym kind_is ∙ is) (sym here_is ∙ here) (ap (λ (y : TextUnit). y.piece.text) (sym same) ∙ none);
       header = λ is none gone. k.header (sym kind_is ∙ is) (ap (λ (y : TextUnit). y.base) (sym same) ∙ none) (sym here_is ∙ gone);
     }
 
@@ -178,8 +178,8 @@ module _ (c : Change) (cs : List Change) (ts : List (List ℕ)) (more : List (Li
       goes = l.goes ∙ ap (moved_site cs) k.goes ∙ moved_on c cs (site u);
       home = λ is. l.home (ap is_comment m.kind ∙ is) ∙ ap (option_map (moved_site cs)) (k.home is) ∙ line_moved_on c cs line;
       ends = line_ends;
-      empty = λ is here none last.
-          l.empty (m.kind ∙ is) (kept_then here) ((m.kept (kept_first here)).text ∙ none) (k.empty is (kept_first here) none last);
+      empty = λ firm is here none last.
+          l.empty firm (m.kind ∙ is) (kept_then here) ((m.kept (kept_first here)).text ∙ none) (k.empty firm is (kept_first here) none last);
       header = λ is none gone. (on_line (m.kind ∙ is) gone).header none;
     }
 
@@ -197,7 +197,7 @@ module _ (c : Change) (cs : List Change) (ts : List (List ℕ)) (more : List (Li
             ⊎ ((d + 1 ≡ length after) × (v.piece.text ≡ []) × ¬ (c ∷ cs ≡ []))
         by false then = inl (at_map (λ e o. inr o) v.address ((n.lost then).0 is))
         by true then = elim (m.line line) [
-          | inr last ↦ inr (l.empty line then last.1 last.0, (n.kept then).text ∙ last.1, (λ none. cc))
+          | inr last ↦ inr (l.empty tt line then last.1 last.0, (n.kept then).text ∙ last.1, (λ none. cc))
           | inl owed ↦
               let on = line_owed c cs w.base w.address v.address (sym (line_is cs mid w line) ∙ then) (n.kept then).address owed
               (λ none. elim (k line none) [ inl blank ↦ absurd (subst (λ o. At o (IsOwed (c ∷ []))) blank owed) | inr below ↦ below ]) in

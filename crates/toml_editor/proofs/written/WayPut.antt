@@ -1,5 +1,5 @@
 -- The way of an edit that puts a line in, and so of an `insert`.
-use Rattle.std.proofs.Common.{◌≡◌, ◌⊎◌, inl, inr, ◌<◌, ◌+◌, ℕ, suc, false, Option, Some, None, List, [], ◌∷◌, ◌++◌, map, length, refl, sym, ap, ap₂, ◌∙◌, subst, subst₂, true≢false, arith, append-nil}
+use Rattle.std.proofs.Common.{◌≡◌, ◌⊎◌, inl, inr, ◌<◌, ◌+◌, ℕ, false, Option, Some, None, List, [], ◌∷◌, ◌++◌, map, length, refl, sym, ap, ap₂, ◌∙◌, subst, subst₂, true≢false, arith, append-nil}
 use Rattle.std.specs.Prelude.{slice_get, option_and_then}
 use Rattle.toml_tree.specs.Spells.{AreLines, EachIs}
 use Rattle.toml_tree.specs.Tree.{Value, Line}
@@ -21,35 +21,34 @@ use Rattle.toml_editor.specs.UnitBlocks.{BeginWithLine}
 use Rattle.toml_editor.proofs.Each.{each_append}
 use Rattle.toml_editor.proofs.written.InsertKept.{inserted_on}
 use Rattle.toml_editor.proofs.written.Way.{Step, both, new, olds, news, one_line, is_here}
-use Rattle.toml_editor.proofs.written.WayBlock.{line_after, olds_append, news_append, added_append, fits_append, new_fits, new_olds, new_news, new_adds, lines_append, inside_lines, same_comments, inside_asked}
+use Rattle.toml_editor.proofs.written.WayBlock.{line_after, olds_append, news_append, added_append, fits_append, new_fits, new_olds, new_news, new_adds, lines_append, same_comments, inside_asked}
 use Rattle.toml_editor.proofs.written.WayComments.{added, comments}
-use Rattle.toml_editor.proofs.written.WayFits.{Matches, IsAsked, SameNewline, newlines}
+use Rattle.toml_editor.proofs.written.WayFits.{Fits, Matches, IsAsked, SameNewline, newlines}
 use Rattle.toml_editor.proofs.written.WayRenamed.{zip_adds}
-use Rattle.toml_editor.proofs.written.WayKeeps.{ComesOwed, Keeps, next_after}
-use Rattle.toml_editor.proofs.written.WayKept.{HeaderIsOwed, IsFixed, insert_header, same_way, same_keeps, same_olds, same_news, new_keeps, inner_blank, keeps_append, count_lines}
+use Rattle.toml_editor.proofs.written.WayKeeps.{ComesOwed, KeepsIf, next_after}
+use Rattle.toml_editor.proofs.written.WayKept.{HeaderIsOwed, IsFixed, insert_header, same_way, same_keeps_if, same_olds, same_news, new_keeps_if, inner_blank, keeps_append_if, count_lines}
 use Rattle.toml_editor.proofs.written.UnitsGone.{value_in}
 use Rattle.toml_names.specs.mentions.Mentions.{root}
-use Rattle.toml_editor.proofs.written.WayWhole.{HasWay, as_many}
+use Rattle.toml_editor.proofs.written.WayWhole.{HasWay, HasWayIf, as_many}
 use Rattle.toml_editor.proofs.written.WayZip.{IsNear, lost_line, no_comment_lost, carried_to, zip, lines_in, zip_olds, zip_news, zip_fits}
-use Rattle.toml_editor.proofs.written.UnitsPut.{IsPutWell, block, puts_lines}
+use Rattle.toml_editor.proofs.written.UnitsPut.{IsPutWell, block, formed_well, puts_lines}
 
 pub all_same : (us : List TextUnit) → GoTogether (λ u w. u ≡ w) us us
 all_same [] = tt
 all_same (u ∷ us) = (refl, all_same us)
 
--- ---- of any edit that puts a line in, with what lies in it, and carries all others to themselves
+-- ---- of any edit that puts lines in, with what lies in them, and carries all others to themselves
 
 -- what such an edit has
-pub record PutsLine (c : Change) (ts : List (List ℕ)) (block : List TextUnit) : Type 0 where
+pub record PutsLines (c : Change) (ts : List (List ℕ)) (block : List TextUnit) : Type 0 where
   pub stays : (a : Address) → carry c a ≡ Some a
   pub lost : (line : Option Site) (u : TextUnit) → is_here (c ∷ []) line u ≡ false
       → (u.kind ≡ kinds.Line → At u.address (IsOwed (c ∷ []))) × (is_comment u.kind ≡ false)
   pub header : (u : TextUnit) → HeaderIsOwed c u u
-  pub asked : (before after : List (List ℕ)) → EachIs (λ w. (k : ℕ) → IsAsked (c ∷ []) (ts ∷ []) before after k w) block
-  pub one : lines_in block ≡ 1
+  pub some : 0 < lines_in block
   pub texts_are : texts (comments block) ≡ ts
 
-module _ (c : Change) (ts : List (List ℕ)) (block : List TextUnit) (puts : PutsLine c ts block) where
+module _ (c : Change) (ts : List (List ℕ)) (block : List TextUnit) (puts : PutsLines c ts block) where
   stays_at : (o : Option Address) → o ≡ option_and_then (carry c) o
   stays_at None = refl
   stays_at (Some x) = sym (puts.stays x)
@@ -78,10 +77,10 @@ module _ (c : Change) (ts : List (List ℕ)) (block : List TextUnit) (puts : Put
   some_lines [] line = inl refl
   some_lines (u ∷ us) line = let e : one_line u.kind ≡ 1 = ap one_line line in inr (omega (arith, e))
 
-  put_keeps : {Formed : Type 0} {before after : List (List ℕ)} {us ws : List TextUnit} (formed : Formed) (well : IsPutWell Formed us block ws before after)
+  put_keeps : {Formed : Type 0} {before after : List (List ℕ)} {us ws : List TextUnit} (well : IsPutWell Formed us block ws before after)
       → EachIs (ComesOwed (c ∷ []) before after) block → lines_in us ≡ length before → lines_in ws ≡ length after
-      → Keeps (c ∷ []) before after None None 0 0 (put_steps well)
-  put_keeps {Formed} {before} {after} formed well comes old_count new_count =
+      → KeepsIf Formed (c ∷ []) before after None None 0 0 (put_steps well)
+  put_keeps {Formed} {before} {after} well comes old_count new_count =
       let front = well.put.front in
       let back = well.put.back in
       let n = lines_in front in
@@ -90,45 +89,48 @@ module _ (c : Change) (ts : List (List ℕ)) (block : List TextUnit) (puts : Put
       let olds_block = ap lines_in (new_olds block) in
       let news_block = ap lines_in (new_news block) in
       let old_total : n + lines_in back ≡ length before = sym (lines_append front back) ∙ ap lines_in (sym well.put.before) ∙ old_count in
-      let new_total : n + (1 + lines_in back) ≡ length after =
+      let new_total : n + (lines_in block + lines_in back) ≡ length after =
       (let a = lines_append front (block ++ back) in let b = lines_append block back in let d = ap lines_in well.put.after in omega
-      (arith, a, b, d, puts.one, new_count)) in
-      subst₂ (λ x y. Keeps (c ∷ []) before after None None 0 0 (x ++ (map new block ++ y))) (sym (zip_same front)) (sym (zip_same back))
-      (keeps_append c before after (same_way front) (map new block ++ same_way back) None None 0 0
-      (same_keeps c before after front (all_fixed front) None None (inl refl) 0 0
+      (arith, a, b, d, new_count)) in
+      subst₂ (λ x y. KeepsIf Formed (c ∷ []) before after None None 0 0 (x ++ (map new block ++ y))) (sym (zip_same front)) (sym (zip_same back))
+      (keeps_append_if Formed c before after (same_way front) (map new block ++ same_way back) None None 0 0
+      (same_keeps_if Formed c before after front (all_fixed front) None None (inl refl) 0 0
       (λ x low. record {
         newline = let e : x ≡ 0 + x = omega arith in subst (λ k. (slice_get before k ≡ slice_get after k) ⊎ (k + 1 ≡ length before)) e
             (well.front_ends x low);
-        last = λ h. let f : ⊥ = omega (arith, low, h, new_total) in absurd f;
+        last = λ h. let f : ⊥ = omega (arith, low, h, new_total, puts.some) in absurd f;
       })
-      (elim (some_lines back well.put.next) [
+      (λ formed. elim (some_lines back well.put.next) [
         | inl none ↦ inr (well.full formed none, omega (arith, old_total))
         | inr some ↦ inl (λ x low h. let f : ⊥ = omega (arith, some, low, h, old_total) in absurd f)
       ]))
-      (keeps_append c before after (map new block) (same_way back) (line_after None (same_way front)) (next_after None (same_way front))
+      (keeps_append_if Formed c before after (map new block) (same_way back) (line_after None (same_way front)) (next_after None (same_way front))
       (0 + lines_in (olds (same_way front))) (0 + lines_in (news (same_way front)))
-      (new_keeps c before after block comes (line_after None (same_way front)) (next_after None (same_way front))
+      (new_keeps_if Formed c before after block comes (line_after None (same_way front)) (next_after None (same_way front))
       (0 + lines_in (olds (same_way front))) (0 + lines_in (news (same_way front))))
-      (subst₂ (λ x y. Keeps (c ∷ []) before after (line_after (line_after None (same_way front)) (map new block))
+      (subst₂ (λ x y. KeepsIf Formed (c ∷ []) before after (line_after (line_after None (same_way front)) (map new block))
       (next_after (next_after None (same_way front)) (map new block)) x y (same_way back))
       (let e : n ≡ (0 + lines_in (olds (same_way front))) + lines_in (olds (map new block)) = omega (arith, olds_head, olds_block) in e)
-      (let e : n + 1 ≡ (0 + lines_in (news (same_way front))) + lines_in (news (map new block)) = omega
-      (arith, news_head, news_block, puts.one) in e)
-      (same_keeps c before after back (all_fixed back) (line_after (line_after None (same_way front)) (map new block))
-      (next_after (next_after None (same_way front)) (map new block)) (inr well.put.next) n (n + 1)
+      (let e : n + lines_in block ≡ (0 + lines_in (news (same_way front))) + lines_in (news (map new block)) = omega
+      (arith, news_head, news_block) in e)
+      (same_keeps_if Formed c before after back (all_fixed back) (line_after (line_after None (same_way front)) (map new block))
+      (next_after (next_after None (same_way front)) (map new block)) (inr well.put.next) n (n + lines_in block)
       (λ x low. record {
-        newline = inl (well.back_ends x ∙ ap (slice_get after) (let e : n + suc x ≡ (n + 1) + x = omega arith in e));
+        newline = inl (well.back_ends x ∙ ap (slice_get after) (let e : n + (lines_in block + x) ≡ (n + lines_in block) + x = omega arith in e));
         last = λ h. omega (arith, h, old_total, new_total);
       })
-      (inl (λ x low h. omega (arith, h, old_total, new_total)))))))
+      (λ formed. inl (λ x low h. omega (arith, h, old_total, new_total)))))))
     where
       zip_same : (us : List TextUnit) → zip us us ≡ same_way us
       zip_same [] = refl
       zip_same (u ∷ us) = ap (λ l. both u u ∷ l) (zip_same us)
 
-  pub put_way : (lines edited : List Line) → AreLines lines → EachIs (ComesOwed (c ∷ []) (newlines lines) (newlines edited)) block
-      → IsPutWell (AreLines lines) (units lines) block (units edited) (newlines lines) (newlines edited) → HasWay (c ∷ []) (ts ∷ []) lines edited
-  put_way lines edited formed comes well =
+  -- from where each is asked for so the others stand
+  pub put_way_if : {Firm : Type 0} (lines edited : List Line) → EachIs (ComesOwed (c ∷ []) (newlines lines) (newlines edited)) block
+      → (well : IsPutWell Firm (units lines) block (units edited) (newlines lines) (newlines edited))
+      → ((line : Option Site) (a : ℕ) → Fits (c ∷ []) (ts ∷ []) (newlines lines) (newlines edited) line a (lines_in well.put.front) (map new block))
+      → HasWayIf Firm (c ∷ []) (ts ∷ []) lines edited
+  put_way_if lines edited comes well asks =
       let front = well.put.front in
       let back = well.put.back in
       let before = newlines lines in
@@ -147,15 +149,17 @@ module _ (c : Change) (ts : List (List ℕ)) (block : List TextUnit) (puts : Put
             fits_append (c ∷ []) (ts ∷ []) before after head (map new block ++ tail) None 0 0
             (zip_fits (c ∷ []) (ts ∷ []) before after (λ u w. u ≡ w) (matches before after) front front (all_same front) None 0 0 (λ x low. front_same well x low))
             (fits_append (c ∷ []) (ts ∷ []) before after (map new block) tail (line_after None head) (0 + lines_in (olds head)) (0 + lines_in (news head))
-            (new_fits (c ∷ []) (ts ∷ []) before after block (line_after None head) (0 + lines_in (olds head)) (0 + lines_in (news head)) (puts.asked before after))
+            (subst (λ k. Fits (c ∷ []) (ts ∷ []) before after (line_after None head) (0 + lines_in (olds head)) k (map new block))
+            (let e = ap lines_in news_head in let f : lines_in front ≡ 0 + lines_in (news head) = omega (arith, e) in f)
+            (asks (line_after None head) (0 + lines_in (olds head))))
             (zip_fits (c ∷ []) (ts ∷ []) before after (λ u w. u ≡ w) (matches before after) back back (all_same back) (line_after (line_after None head) (map new block))
             ((0 + lines_in (olds head)) + lines_in (olds (map new block))) ((0 + lines_in (news head)) + lines_in (news (map new block)))
             (λ x low. inl (
             ap (slice_get before) (let e = ap lines_in olds_head in let f = ap lines_in (new_olds block) in let g : ((0 + lines_in (olds head)) + lines_in (olds (map new block))) + x ≡ lines_in front + x = omega (arith, e, f) in g)
             ∙ well.back_ends x
             ∙ ap (slice_get after) (let e = ap lines_in news_head in let f = ap lines_in (new_news block) in
-            let g : lines_in front + suc x ≡ ((0 + lines_in (news head)) + lines_in (news (map new block))) + x = omega (arith, e, f, puts.one) in g)))));
-        keeps = put_keeps formed well comes (count_lines lines (root ∷ []) 0) (count_lines edited (root ∷ []) 0);
+            let g : lines_in front + (lines_in block + x) ≡ ((0 + lines_in (news head)) + lines_in (news (map new block))) + x = omega (arith, e, f) in g)))));
+        keeps = put_keeps well comes (count_lines lines (root ∷ []) 0) (count_lines edited (root ∷ []) 0);
         comments_few = λ t. as_many t (texts (comments (added (head ++ (map new block ++ tail))))) (ts ++ []) (
             ap (λ us. texts (comments us)) (added_append head (map new block ++ tail) ∙ ap₂ (λ x y. x ++ y) (zip_adds front front) (added_append (map new block) tail ∙ ap₂ (λ x y. x ++ y) (new_adds block) (zip_adds back back)) ∙ append-nil block)
             ∙ puts.texts_are ∙ sym (append-nil ts));
@@ -165,6 +169,18 @@ module _ (c : Change) (ts : List (List ℕ)) (block : List TextUnit) (puts : Put
       front_same {Formed} {before} {after} well x low =
           let e : x ≡ 0 + x = omega arith in
           subst (λ n. SameNewline (c ∷ []) (ts ∷ []) before after n n) e (elim (well.front_ends x low) [ inl is ↦ inl is | inr last ↦ inr (inl last) ])
+
+  -- each is asked for wherever it stands
+  abbrev pub AreAsked : Type 0
+  AreAsked = (before after : List (List ℕ)) → EachIs (λ w. (k : ℕ) → IsAsked (c ∷ []) (ts ∷ []) before after k w) block
+
+  pub put_way : (lines edited : List Line) → AreLines lines → EachIs (ComesOwed (c ∷ []) (newlines lines) (newlines edited)) block → AreAsked
+      → IsPutWell (AreLines lines) (units lines) block (units edited) (newlines lines) (newlines edited) → HasWay (c ∷ []) (ts ∷ []) lines edited
+  put_way lines edited formed comes asked well =
+      let before = newlines lines in
+      let after = newlines edited in
+      let here = formed_well (AreLines lines) (Unit {0}) (units lines) (units edited) block before after (λ any. formed) well in
+      put_way_if lines edited comes here (λ line a. new_fits (c ∷ []) (ts ∷ []) before after block line a (lines_in here.put.front) (asked before after))
 
 -- ---- of an `insert`
 
@@ -197,10 +213,7 @@ module _ (q : Address) (name text : List ℕ) (v : Value) (s : Spacing) where
     each_append _ (inside p v) [] (inner_blank c before after p (inside p v) (value_in p v p (inr refl))) tt,
   )
 
-  line_one : lines_in line_block ≡ 1
-  line_one = let none = lines_append (inside p v) [] in let zero = inside_lines p v in omega (arith, none, zero)
-
-  insert_puts : PutsLine c ts line_block
+  insert_puts : PutsLines c ts line_block
   insert_puts = record {
     stays = inserted_on q name text;
     lost = λ line u gone. (
@@ -208,8 +221,7 @@ module _ (q : Address) (name text : List ℕ) (v : Value) (s : Spacing) where
       no_comment_lost c tt line u gone,
     );
     header = λ u. insert_header p text u u;
-    asked = line_asked;
-    one = line_one;
+    some = omega arith;
     texts_are = ap (λ us. texts (comments us)) (append-nil (inside p v)) ∙ same_comments p v;
   }
 
@@ -219,4 +231,4 @@ insert_way q name text v manner lines there formed =
     let (s, plain, well) = puts_lines q name v manner lines there in
     let edited = insert_in q name v manner lines in
     put_way (insert (child q name) text) (texts (comments (inside [] v))) (block q name v s) (insert_puts q name text v s) lines edited formed
-    (line_comes q name text v s (newlines lines) (newlines edited)) well
+    (line_comes q name text v s (newlines lines) (newlines edited)) (line_asked q name text v s) well

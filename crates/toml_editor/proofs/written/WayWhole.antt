@@ -17,16 +17,32 @@ use Rattle.toml_units.proofs.Proved.{units_of_bares}
 use Rattle.toml_editor.proofs.written.Way.{Step, both, old, new, olds, news, seen, pairs, NoneLost, first_of, of_first, Stands, whole, one_line}
 use Rattle.toml_editor.proofs.written.WayComments.{added, comments, no_comments_added}
 use Rattle.toml_editor.proofs.written.WayFits.{Fits, newlines, Place, pairs_fit, no_lines_added, unit_kind, seen_kind}
-use Rattle.toml_editor.proofs.written.WayKeeps.{Keeps}
+use Rattle.toml_editor.proofs.written.WayKeeps.{KeepsIf, keeps_weaker}
 
--- a way from the units of the lines to those of the edited lines
-pub record HasWay (cs : List Change) (written : List (List (List ℕ))) (lines edited : List Line) : Type 0 where
+-- A way from the units of the lines to those of the edited lines. `Firm` tells when a last line of no bytes stays the last.
+pub record HasWayIf (Firm : Type 0) (cs : List Change) (written : List (List (List ℕ))) (lines edited : List Line) : Type 0 where
   pub way : List Step
   pub olds_are : olds way ≡ units lines
   pub news_are : news way ≡ units edited
   pub fits : Fits cs written (newlines lines) (newlines edited) None 0 0 way
-  pub keeps : Keeps cs (newlines lines) (newlines edited) None None 0 0 way
+  pub keeps : KeepsIf Firm cs (newlines lines) (newlines edited) None None 0 0 way
   pub comments_few : (t : List ℕ) → times t (texts (comments (added way))) ≤ times t (flat_map (λ ts. ts) written)
+
+-- where it always does
+abbrev pub HasWay : List Change → List (List (List ℕ)) → List Line → List Line → Type 0
+HasWay = HasWayIf (Unit {0})
+
+-- and where it does under these conditions too
+pub way_weaker : {Firm : Type 0} (Other : Type 0) (cs : List Change) (written : List (List (List ℕ))) (lines edited : List Line) → (Other → Firm)
+    → HasWayIf Firm cs written lines edited → HasWayIf Other cs written lines edited
+way_weaker {Firm} Other cs written lines edited firm h = record {
+  way = h.way;
+  olds_are = h.olds_are;
+  news_are = h.news_are;
+  fits = h.fits;
+  keeps = keeps_weaker Firm Other firm cs (newlines lines) (newlines edited) h.way None None 0 0 h.keeps;
+  comments_few = h.comments_few;
+}
 
 none_lost : (cs : List Change) (written : List (List (List ℕ))) (before after : List (List ℕ)) (s : List Step) (line : Option Site) (a b : ℕ) → Fits cs written before after line a b s → NoneLost cs line s
 none_lost cs written before after [] line a b fit = tt
@@ -34,7 +50,7 @@ none_lost cs written before after (both u w ∷ s) line a b fit = none_lost cs w
 none_lost cs written before after (old u ∷ s) line a b fit = (fit.0, none_lost cs written before after s (next_line line (site u)) (a + one_line u.kind) b fit.1)
 none_lost cs written before after (new w ∷ s) line a b fit = none_lost cs written before after s line a (b + one_line w.kind) fit.1
 
-module _ (cs : List Change) (written : List (List (List ℕ))) (d e : Doc) (edited : List Line) (h : HasWay cs written d.lines edited) where
+module _ {Firm : Type 0} (cs : List Change) (written : List (List (List ℕ))) (d e : Doc) (edited : List Line) (h : HasWayIf Firm cs written d.lines edited) where
   abbrev ps : List (ℕ × ℕ)
   ps = pairs cs None 0 0 h.way
 
