@@ -10,13 +10,16 @@ pub mod Certify
 pub mod Clear
 pub mod Closed
 pub mod Counted
+pub mod CountedApart
 pub mod CountedAlike
 pub mod CountedArrays
 pub mod Deep
 pub mod DocumentSections
+pub mod ElementCounted
 pub mod ElementHeaded
 pub mod ElementKept
 pub mod ElementNamed
+pub mod ElementPlace
 pub mod Elsewhere
 pub mod EmptiedLine
 pub mod EmptyAlone
@@ -30,6 +33,9 @@ pub mod ExamplesHeaded
 pub mod Exchanged
 pub mod Fitting
 pub mod Follow
+pub mod FollowedFacts
+pub mod FollowedPlace
+pub mod FollowedSplit
 pub mod Formed
 pub mod HeaderCounted
 pub mod HeaderKept
@@ -38,6 +44,7 @@ pub mod HeaderPlace
 pub mod HeaderPut
 pub mod HeaderSplit
 pub mod HeaderStood
+pub mod HeaderThere
 pub mod HeadersAlone
 pub mod HeadersRenamed
 pub mod InTurn

@@ -6,6 +6,7 @@ pub mod Editing
 pub mod SpelledEdits
 -- the laws of what a plain edit writes
 pub mod HeadersInTurn
+pub mod HeadingFollowed
 pub mod Held
 pub mod SetLaws
 pub mod Blocks

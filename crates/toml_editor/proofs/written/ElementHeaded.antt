@@ -31,6 +31,23 @@ use Rattle.toml_editor.proofs.written.Plain.{behind, plain_is}
 use Rattle.toml_editor.proofs.written.TablesStay.{begins_under}
 use Rattle.toml_editor.proofs.written.Unplain.{has_plain}
 
+-- ---- what is named
+
+-- what no line makes or holds is not named
+pub away_unnamed : (e : Address) → ¬ ([] ≡ e) → (lines : List Line) → EachIs (IsAway e) (standing lines) → ¬ Has (λ m. m.address ≡ e) (named lines)
+away_unnamed e not_root lines each there =
+    from_has (NotThere e) (λ m. m.address ≡ e) ⊥ (λ m away here. away here) (root ∷ behind (root ∷ []) lines)
+    (not_root, lines_away e lines (root ∷ []) (root ∷ []) 0 (alike_self (root ∷ [])) each)
+    (subst (Has (λ m. m.address ≡ e)) (plain_is lines) (has_plain lines (λ m. m.address ≡ e) there))
+
+-- what the data have is named
+pub some_named : (lines : List Line) (kinds : Kinds) → IsDataOf (named lines) kinds → (e : Address) → IsSome (kinds e) → Has (λ m. m.address ≡ e) (named lines)
+some_named lines kinds facts e = by (kinds e) refl
+  where
+    by : (o : Option Kind) → kinds e ≡ o → IsSome o → Has (λ m. m.address ≡ e) (named lines)
+    by None is some = absurd (true≢false (sym some))
+    by (Some k) is some = has_weaker (λ m. (m.address ≡ e) × (m.kind ≡ k)) (λ m. m.address ≡ e) (λ m h. h.0) (named lines) (has_of_any _ (named lines) ((facts e k).0 is))
+
 -- ---- the innermost element
 
 -- what the innermost element of an address is: its front up to an index
@@ -109,12 +126,10 @@ module _ (e array : Address) (i : ℕ) (ends : e ≡ array ++ Index i ∷ []) wh
       no_end (s ∷ a) h = cc
 
   -- where no line's value holds it, and no header is there or below, it is not named
-  pub unheaded_unnamed : (lines : List Line) → list_any (holds e) (standing lines) ≡ false → has_below e (standing lines) ≡ false → Has (λ m. m.address ≡ e) (named lines) → ⊥
-  unheaded_unnamed lines none unheaded there =
-      let away = lines_away e lines (root ∷ []) (root ∷ []) 0 (alike_self (root ∷ []))
-      (all_away lines (root ∷ []) 0 (not_any (holds e) (standing lines) none) (not_any (is_sought_line sought.HeaderBelow e) (standing lines) unheaded)) in
-      from_has (NotThere e) (λ m. m.address ≡ e) ⊥ (λ m away' here. away' here) (root ∷ behind (root ∷ []) lines) (not_root, away)
-      (subst (Has (λ m. m.address ≡ e)) (plain_is lines) (has_plain lines (λ m. m.address ≡ e) there))
+  pub unheaded_unnamed : (lines : List Line) → list_any (holds e) (standing lines) ≡ false → has_below e (standing lines) ≡ false → ¬ Has (λ m. m.address ≡ e) (named lines)
+  unheaded_unnamed lines none unheaded =
+      away_unnamed e not_root lines
+      (all_away lines (root ∷ []) 0 (not_any (holds e) (standing lines) none) (not_any (is_sought_line sought.HeaderBelow e) (standing lines) unheaded))
 
 -- what holds an element holds what stands in it
 holds_on : (e rest : Address) (s : Standing) → holds (e ++ rest) s ≡ false → holds e s ≡ false
@@ -131,7 +146,8 @@ holds_on e rest s none = by s.base s.address none
             let (r, at) = begins_under e a e is in
             absurd (true≢false (sym (begins_longer a (r ++ rest)) ∙ ap (begins a) (sym (append_assoc a r rest) ∙ ap (λ x. x ++ rest) (sym at)) ∙ h))
 
-none_holds : (e rest : Address) (ss : List Standing) → list_any (holds (e ++ rest)) ss ≡ false → list_any (holds e) ss ≡ false
+-- so where none holds this, none holds the element
+pub none_holds : (e rest : Address) (ss : List Standing) → list_any (holds (e ++ rest)) ss ≡ false → list_any (holds e) ss ≡ false
 none_holds e rest ss none = all ss (not_any (holds (e ++ rest)) ss none)
   where
     all : (ts : List Standing) → EachIs (λ t. holds (e ++ rest) t ≡ false) ts → list_any (holds e) ts ≡ false
@@ -146,14 +162,10 @@ element_headed lines q kinds keeps facts table outside e inner = by (has_below e
     it : IsInner q e
     it = inner_is q e inner
 
-    named_at : (o : Option Kind) → kinds e ≡ o → IsSome o → Has (λ m. m.address ≡ e) (named lines)
-    named_at None is some = absurd (true≢false (sym some))
-    named_at (Some k) is some = has_weaker (λ m. (m.address ≡ e) × (m.kind ≡ k)) (λ m. m.address ≡ e) (λ m h. h.0) (named lines) (has_of_any _ (named lines) ((facts e k).0 is))
-
     there : IsSome (kinds e)
     there = fronts_stand kinds (lines_are_closed lines kinds keeps facts) e it.rest (subst (λ x. IsSome (kinds x)) it.front (subst IsSome (sym table) refl))
 
     by : (b : Bool) → has_below e (standing lines) ≡ b → has_below e (standing lines) ≡ true
     by true is = is
     by false is =
-        absurd (unheaded_unnamed e it.array it.index it.is lines (none_holds e it.rest (standing lines) (subst (λ x. list_any (holds x) (standing lines) ≡ false) it.front outside)) is (named_at (kinds e) refl there))
+        absurd (unheaded_unnamed e it.array it.index it.is lines (none_holds e it.rest (standing lines) (subst (λ x. list_any (holds x) (standing lines) ≡ false) it.front outside)) is (some_named lines kinds facts e there))

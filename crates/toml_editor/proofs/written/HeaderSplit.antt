@@ -1,6 +1,8 @@
 -- Where layout `Plain` puts a header line: two parts of the lines, on the lines of a tree and on what stands on them.
 use Rattle.std.proofs.Common.{◌≡◌, ◌⊎◌, inl, inr, ℕ, Bool, true, false, ◌||◌, List, [], ◌∷◌, ◌++◌, map, Option, Some, None, option_map, refl, sym, ap, ap₂, ◌∙◌, subst, true≢false}
 use Rattle.std.proofs.lemmas.Bool.{cond-true, cond-false}
+use Rattle.std.proofs.lemmas.List.{map-append}
+use Rattle.std.proofs.lemmas.List.Folds.{list_any-append}
 use Rattle.std.specs.List.{list_any}
 use Rattle.toml_tree.specs.Spells.{EachIs}
 use Rattle.toml_tree.specs.Tree.{Line}
@@ -24,6 +26,14 @@ stand_of = map (λ (x : Shown). x.1)
 
 abbrev pub IsHeadlessShown : Shown → Type 0
 IsHeadlessShown x = IsNoHeader x.1
+
+-- where none of the lines is so, none of the last ones is
+pub any_back : (test : Standing → Bool) (xs ys : List Standing) → list_any test (xs ++ ys) ≡ false → list_any test ys ≡ false
+any_back test xs ys none = by (list_any test xs) (sym (list_any-append test xs ys) ∙ none)
+  where
+    by : (b : Bool) → (b || list_any test ys) ≡ false → list_any test ys ≡ false
+    by true h = absurd (true≢false h)
+    by false h = h
 
 -- the last header line at the address or below it, if there is one, has no header line behind it
 pub record LastBelow (e : Address) (xs : List Shown) : Type 0 where
@@ -102,6 +112,7 @@ module _ (h : Line) (new : Standing) where
     pub record NextHeader (xs : List Shown) : Type 0 where
       pub parted : IsParted xs (line_before_next e h xs) (before_next e new (stand_of xs))
       pub last : LastBelow e parted.front
+      pub behind : has_below e (stand_of (parted.head ∷ parted.rest)) ≡ false
 
     -- there is none
     pub record NoNext (xs : List Shown) : Type 0 where
@@ -127,6 +138,7 @@ module _ (h : Line) (new : Standing) where
           parted = parted_as (x ∷ xs) _ _ _ _ (ap (option_map (λ r. l ∷ r)) (cond-true _ _ _ more)) (ap (option_map (λ r. s ∷ r)) (cond-true _ _ _ more))
               (parted_later x xs (line_before_next e h xs) (before_next e new (stand_of xs)) next.parted);
           last = later_below e x next.parted.front next.last;
+          behind = next.behind;
         })
         by false more true here next (inl none) = inl (record {
           put = ap (option_map (λ r. l ∷ r)) (cond-false _ _ _ more ∙ cond-true _ _ _ here ∙ none.put);
@@ -139,6 +151,9 @@ module _ (h : Line) (new : Standing) where
               (ap (option_map (λ r. s ∷ r)) (cond-false _ _ _ more ∙ cond-true _ _ _ here))
               (parted_later x xs (line_before_header h xs) (before_header new (stand_of xs)) first.parted);
           last = record { before = []; line = x; between = first.parted.front; is = refl; below = here; headless = first.headless };
+          behind =
+              any_back (is_sought_line sought.HeaderBelow e) (stand_of first.parted.front) (stand_of (first.parted.head ∷ first.parted.rest))
+              (ap (has_below e) (sym (ap stand_of first.parted.was ∙ map-append (λ (y : Shown). y.1) first.parted.front (first.parted.head ∷ first.parted.rest))) ∙ more);
         })
         by false more false here next first = inl (record {
           put = ap (option_map (λ r. l ∷ r)) (cond-false _ _ _ more ∙ cond-false _ _ _ here);

@@ -1,35 +1,44 @@
--- The lines with a new section's header line, by layout `Plain`: where it stands, and what then stands on the lines.
-use Rattle.std.proofs.Common.{◌≡◌, ◌⊎◌, inl, inr, ℕ, ◌+◌, Bool, true, false, cond, ◌&&◌, Option, Some, None, List, [], ◌∷◌, ◌++◌, map, length, length-append, refl, sym, ap, ap₂, ◌∙◌, subst, true≢false, append-nil, append_assoc, arith}
+-- The lines with a new header line: where it stands, and what then stands on the lines.
+use Rattle.std.proofs.Common.{◌≡◌, inl, ℕ, ◌+◌, Bool, true, false, cond, ◌&&◌, Option, Some, None, List, [], ◌∷◌, ◌++◌, map, length, length-append, refl, sym, ap, ap₂, ◌∙◌, subst, true≢false, append-nil, append_assoc, arith}
+use Rattle.std.proofs.lemmas.List.{map-append}
+use Rattle.std.proofs.lemmas.Option.{same_Some}
 use Rattle.toml_scalar.specs.Spelling.{spelled}
 use Rattle.toml_tree.specs.Bare.{fresh}
 use Rattle.toml_tree.specs.Spells.{AreLines, EachIs}
 use Rattle.toml_tree.specs.Tree.{Expr, BlankLine, KeyValLine, TableLine, ArrayTableLine, Line}
-use Rattle.toml_names.specs.declared.mentions.mention.Role.TheVariants.{Passed, Header}
 use Rattle.toml_names.specs.declared.model.address.Step.{Step}
 use Rattle.toml_names.specs.declared.model.address.Step.TheVariants.{Index, Name}
-use Rattle.toml_names.specs.mentions.Keys.{Key, key_names}
-use Rattle.toml_names.specs.mentions.Mentions.{Named, count_tables, ends_table, entered, followed, named, named_by, root, table_at}
-use Rattle.toml_names.specs.model.Addresses.{Address, child, same_address}
-use Rattle.toml_names.specs.reader.Names.{own_address}
+use Rattle.toml_names.specs.mentions.Keys.{key_names, part_name, rest_names}
+use Rattle.toml_names.specs.mentions.Mentions.{Named, count_tables, named, named_by, root}
+use Rattle.toml_names.specs.model.Addresses.{Address}
+use Rattle.toml_names.specs.reader.Names.{header_end, own_address}
 use Rattle.toml_names.proofs.Proved.{count-append}
+use Rattle.toml_units.specs.Units.{line_base}
 use Rattle.toml_layout.specs.NewKeys.{bare_part}
 use Rattle.toml_layout.specs.Outlines as outline
 use Rattle.toml_layout.specs.Outlines.{DottedOutline, LineOutline}
 use Rattle.toml_layout.specs.TreeOutlines.{dotted_outline, line_outline}
 use Rattle.toml_layout.specs.TreeOutlines as trees
-use Rattle.toml_layout.specs.declared.tree.Brackets.TheVariants.{One}
-use Rattle.toml_working.specs.Heading.{Shown, dotted_name, header_expr, header_line, header_lines, key_named, shown, shown_from}
+use Rattle.toml_layout.specs.OpenOutlines.{closing_brackets, opening_brackets}
+use Rattle.toml_layout.specs.declared.tree.Brackets.{Brackets}
+use Rattle.toml_layout.specs.declared.tree.Brackets.TheVariants.{One, Two}
+use Rattle.toml_working.specs.Heading.{Shown, dotted_name, header_expr, header_line, key_named, shown, shown_from}
 use Rattle.toml_working.specs.Headers.{has_below, has_no_bytes, header_outline, inner_of, innermost, names_of, new_header, put_plainly}
 use Rattle.toml_working.specs.Headers as headers
 use Rattle.toml_working.specs.Inserting.{has_pair}
 use Rattle.toml_working.specs.InsertStanding.{end_in}
 use Rattle.toml_working.specs.Removing.{no_blank}
-use Rattle.toml_working.specs.Standing.{Standing, line_stands, standing, standing_from}
-use Rattle.toml_editor.proofs.written.Alike.{count_cons}
+use Rattle.toml_working.specs.Placing.{is_header}
+use Rattle.toml_working.specs.Standing.{Standing, line_stands, is_below, standing, standing_from}
+use Rattle.toml_editor.proofs.written.Clear.{differ}
+use Rattle.toml_editor.proofs.written.Counted.{count_array, count_table, counts_stay, one_if, own_counts}
 use Rattle.toml_editor.proofs.written.CountedAlike.{stand_counted}
+use Rattle.toml_editor.proofs.written.CountedApart.{stand_apart}
 use Rattle.toml_editor.proofs.written.DocumentSections.{named_next}
-use Rattle.toml_editor.proofs.written.HeaderPut.{ended}
-use Rattle.toml_editor.proofs.written.HeaderSplit.{IsOutlined, at_end, lines_of, next_header, stand_of}
+use Rattle.toml_editor.proofs.written.EmptyAlone.{not_any}
+use Rattle.toml_editor.proofs.written.HeaderPut.{IsApart}
+use Rattle.toml_editor.proofs.written.HeaderSplit.{IsHeadlessShown, IsOutlined, lines_of, stand_of}
+use Rattle.toml_editor.proofs.written.InsertPlace.{IsHeadless}
 use Rattle.toml_editor.proofs.written.PutStands.{ends_same}
 
 -- ---- lines, each with what stands on it
@@ -87,59 +96,116 @@ stand_append (l ∷ front) tail before =
     ∙ ap₂ (λ a b. line_stands (named before) l ∷ (a ++ b)) (sym (on front))
     (ap (λ bs. standing_from (named bs) (length bs) tail) (append_assoc before (l ∷ []) front))
 
+-- ---- lines without a header, by what stands on them
+
+-- a line that is no header by what stands on it has none
+headless : (xs : List Named) (e : Expr) → is_header (line_base xs e) (own_address xs e) ≡ false → IsHeadless e
+headless xs (BlankLine b) is = tt
+headless xs (KeyValLine ws pair tail) is = tt
+headless xs (TableLine ws header tail) is = true≢false is
+headless xs (ArrayTableLine ws header tail) is = true≢false is
+
+-- so the first of some lines have none
+pub front_headless : (zs back : List Shown) (xs : List Named) (n : ℕ) → standing_from xs n (lines_of (zs ++ back)) ≡ stand_of (zs ++ back) → EachIs IsHeadlessShown zs
+    → EachIs (λ (l : Line). IsHeadless l.expr) (lines_of zs)
+front_headless [] back xs n is none = tt
+front_headless (z ∷ zs) back xs n is none =
+    let head : line_stands xs z.0 ≡ z.1 = cc in
+    let rest : standing_from (xs ++ named_by xs n z.0.expr) (n + 1) (lines_of (zs ++ back)) ≡ stand_of (zs ++ back) = cc in (
+      headless xs z.0.expr (ap (λ (s : Standing). is_header s.base s.address) head ∙ none.0),
+      front_headless zs back (xs ++ named_by xs n z.0.expr) (n + 1) rest none.1,
+    )
+
+-- Behind a line, and lines without a header, the arrays of tables on the way to the line have so many tables as its address says.
+pub counted_behind : (lines : List Line) (before : List Shown) (line : Shown) (between back : List Shown) → shown lines ≡ before ++ line ∷ (between ++ back)
+    → EachIs IsHeadlessShown between → (a r rest : Address) (i : ℕ) → line.1.address ≡ Some a → a ≡ r ++ Index i ∷ rest
+    → count_tables (named (lines_of (before ++ line ∷ between))) r ≡ i + 1
+counted_behind lines before line between back whole none a r rest i own at =
+    let all = parts before (line ∷ (between ++ back)) lines [] whole in
+    let b = lines_of before in
+    let here : line_stands (named b) line.0 ≡ line.1 = (let x = all.back_stands in cc) in
+    let owned : own_address (named b) line.0.expr ≡ Some a = ap (λ (x : Standing). x.address) here ∙ own in
+    let rest_shown : shown lines ≡ (before ++ line ∷ []) ++ (between ++ back) = whole ∙ sym (append_assoc before (line ∷ []) (between ++ back)) in
+    ap (λ ls. count_tables (named ls) r) (map-append (λ (x : Shown). x.0) before (line ∷ between) ∙ sym (append_assoc b (line.0 ∷ []) (lines_of between)))
+    ∙ counts_stay (b ++ line.0 ∷ []) (lines_of between) r (front_headless between back _ _ (parts (before ++ line ∷ []) (between ++ back) lines [] rest_shown).back_stands none)
+    ∙ own_counts b line.0 a r rest i owned at
+
 -- ---- the header line
-
-and_false : (b : Bool) → (b && false) ≡ false
-and_false true = refl
-and_false false = refl
-
-followed_uncounted : (xs : List Named) (line : ℕ) (x : Address) (key : Key) (at : Address) → count_tables (followed line xs (ends_table line) at key) x ≡ 0
-followed_uncounted xs line x [] at = refl
-followed_uncounted xs line x (n ∷ []) at =
-    count_cons (table_at line Header (child at n)) [] x
-    ∙ ap (λ b. cond b 1 0 + 0) (and_false (same_address (child at n) x))
-followed_uncounted xs line x (n ∷ m ∷ more) at =
-    let here = entered xs (child at n) in
-    count_cons (table_at line Passed here) (followed line xs (ends_table line) here (m ∷ more)) x
-    ∙ ap₂ (λ b c. cond b 1 0 + c) (and_false (same_address here x)) (followed_uncounted xs line x (m ∷ more) here)
-
--- a header of a table makes no array longer
-pub header_uncounted : (xs : List Named) (line : ℕ) (p : Address) (ws : List ℕ) (x : Address)
-    → count_tables (xs ++ named_by xs line (header_expr One p ws)) x ≡ count_tables xs x
-header_uncounted xs line p ws x =
-    let all = count-append xs (named_by xs line (header_expr One p ws)) x in
-    let none = followed_uncounted xs line x (key_names (key_named (names_of p))) [] in
-    omega (arith, all, none)
 
 names_outlined : (ns : List (List ℕ)) → map dotted_outline (map dotted_name ns) ≡ map bare_part (map spelled ns)
 names_outlined [] = refl
 names_outlined (n ∷ ns) = ap (λ r. bare_part (spelled n) ∷ r) (names_outlined ns)
 
-pub header_outlined : (p : Address) (ws newline : List ℕ) → line_outline (header_line One p ws newline) ≡ header_outline p One ws newline
-header_outlined p ws newline = by (names_of p)
+outlined : (brackets : Brackets) (ws newline : List ℕ) (ns : List (List ℕ))
+    → trees.line_of ws (trees.header_outline (opening_brackets brackets) (closing_brackets brackets) (record { before = fresh []; key = key_named ns; after = fresh [] })) no_blank (fresh newline)
+    ≡ record { ws = ws; expr = headers.header_of brackets (map spelled ns); tail = []; comment = None; newline = newline }
+outlined brackets ws newline [] = refl
+outlined brackets ws newline (n ∷ ns) =
+    ap (λ (r : List DottedOutline). record {
+      ws = ws;
+      expr = outline.Header (opening_brackets brackets) [] (spelled n) r [] (closing_brackets brackets);
+      tail = [];
+      comment = None;
+      newline = newline;
+    }) (names_outlined ns)
+
+pub header_outlined : (brackets : Brackets) (p : Address) (ws newline : List ℕ)
+    → line_outline (header_line brackets p ws newline) ≡ header_outline p brackets ws newline
+header_outlined One p ws newline = outlined One ws newline (names_of p)
+header_outlined Two p ws newline = outlined Two ws newline (names_of p)
+
+-- A header of a table makes no array longer, one of an element its array, at which and below which no line behind stands. So these stand alike.
+others_stand : (brackets : Brackets) (p : Address) (front back : List Line) (ws : List ℕ) → own_address (named front) (header_expr brackets p ws) ≡ Some p
+    → IsApart brackets p front back → has_pair back ≡ false
+    → standing_from (named front ++ named_by (named front) (length front) (header_expr brackets p ws)) (length front + 1) back ≡ standing_from (named front) (length front) back
+others_stand One p front back ws leads apart unkeyed =
+    stand_counted back (named front ++ named_by (named front) (length front) (header_expr One p ws)) (named front) (length front + 1) (length front) same unkeyed
   where
-    by : (ns : List (List ℕ)) → trees.line_of ws (trees.header_outline (0x5B ∷ []) (0x5D ∷ []) (record { before = fresh []; key = key_named ns; after = fresh [] })) no_blank (fresh newline)
-        ≡ record { ws = ws; expr = headers.header_of One (map spelled ns); tail = []; comment = None; newline = newline }
-    by [] = refl
-    by (n ∷ ns) =
-        ap (λ (r : List DottedOutline). record { ws = ws; expr = outline.Header (0x5B ∷ []) [] (spelled n) r [] (0x5D ∷ []); tail = []; comment = None; newline = newline })
-        (names_outlined ns)
+    same : (x : Address) → count_tables (named front ++ named_by (named front) (length front) (header_expr One p ws)) x ≡ count_tables (named front) x
+    same x =
+        let all = count-append (named front) (named_by (named front) (length front) (header_expr One p ws)) x in
+        let key = key_named (names_of p) in
+        let none = count_table (named front) (length front) x (part_name key.first) (rest_names key.rest) in
+        omega (arith, all, none)
+others_stand Two p front back ws leads apart unkeyed =
+    sym (stand_apart at back xs (xs ++ named_by xs (length front) (header_expr Two p ws)) (length front) (length front + 1) same (inl unkeyed)
+    (not_any (is_below at) (standing_from xs (length front) back) (apart at (count_tables xs at) (sym (same_Some _ p leads)))))
+  where
+    xs : List Named
+    xs = named front
+
+    at : Address
+    at = header_end xs [] (key_names (key_named (names_of p)))
+
+    same : (x : Address) → ¬ (x ≡ at) → count_tables xs x ≡ count_tables (xs ++ named_by xs (length front) (header_expr Two p ws)) x
+    same x other =
+        let all = count-append xs (named_by xs (length front) (header_expr Two p ws)) x in
+        let key = key_named (names_of p) in
+        let none = count_array xs (length front) x (part_name key.first) (rest_names key.rest) ∙ ap one_if (differ at x (λ is. other (sym is))) in
+        omega (arith, all, none)
+
+base_none : (brackets : Brackets) (p : Address) (ws newline : List ℕ) (xs : List Named) → own_address xs (header_expr brackets p ws) ≡ Some p
+    → line_stands xs (header_line brackets p ws newline) ≡ new_header p brackets ws newline
+base_none One p ws newline xs leads =
+    ap₂ (λ (a : Option Address) (o : LineOutline). record { address = a; base = None; outline = o }) leads (header_outlined One p ws newline)
+base_none Two p ws newline xs leads =
+    ap₂ (λ (a : Option Address) (o : LineOutline). record { address = a; base = None; outline = o }) leads (header_outlined Two p ws newline)
 
 -- where its key leads to the address, and no key follows before the next header, it stands there, and the others stay
-pub header_stands : (p : Address) (front back : List Line) (ws newline : List ℕ) → own_address (named front) (header_expr One p ws) ≡ Some p → has_pair back ≡ false
-    → standing_from (named front) (length front) (header_line One p ws newline ∷ back)
-    ≡ new_header p One ws newline ∷ standing_from (named front) (length front) back
-header_stands p front back ws newline leads unkeyed =
-    ap₂ (λ s t. s ∷ t)
-    (ap₂ (λ (a : Option Address) (o : LineOutline). record { address = a; base = None; outline = o }) leads (header_outlined p ws newline))
-    (stand_counted back (named front ++ named_by (named front) (length front) (header_expr One p ws)) (named front) (length front + 1) (length front)
-    (header_uncounted (named front) (length front) p ws) unkeyed)
+pub header_stands : (brackets : Brackets) (p : Address) (front back : List Line) (ws newline : List ℕ) → own_address (named front) (header_expr brackets p ws) ≡ Some p
+    → IsApart brackets p front back → has_pair back ≡ false
+    → standing_from (named front) (length front) (header_line brackets p ws newline ∷ back)
+    ≡ new_header p brackets ws newline ∷ standing_from (named front) (length front) back
+header_stands brackets p front back ws newline leads apart unkeyed =
+    ap₂ (λ s t. s ∷ t) (base_none brackets p ws newline (named front) leads) (others_stand brackets p front back ws leads apart unkeyed)
 
-pub put_stands : (p : Address) (front back : List Line) (ws newline : List ℕ) → own_address (named front) (header_expr One p ws) ≡ Some p → has_pair back ≡ false
-    → standing (front ++ header_line One p ws newline ∷ back)
-    ≡ standing front ++ new_header p One ws newline ∷ standing_from (named front) (length front) back
-put_stands p front back ws newline leads unkeyed =
-    stand_append front (header_line One p ws newline ∷ back) [] ∙ ap (λ t. standing front ++ t) (header_stands p front back ws newline leads unkeyed)
+pub put_stands : (brackets : Brackets) (p : Address) (front back : List Line) (ws newline : List ℕ) → own_address (named front) (header_expr brackets p ws) ≡ Some p
+    → IsApart brackets p front back → has_pair back ≡ false
+    → standing (front ++ header_line brackets p ws newline ∷ back)
+    ≡ standing front ++ new_header p brackets ws newline ∷ standing_from (named front) (length front) back
+put_stands brackets p front back ws newline leads apart unkeyed =
+    stand_append front (header_line brackets p ws newline ∷ back) []
+    ∙ ap (λ t. standing front ++ t) (header_stands brackets p front back ws newline leads apart unkeyed)
 
 -- ---- the innermost element
 
