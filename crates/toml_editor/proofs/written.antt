@@ -10,7 +10,6 @@ pub mod Certify
 pub mod Clear
 pub mod Closed
 pub mod Counted
-pub mod CountedApart
 pub mod CountedAlike
 pub mod CountedArrays
 pub mod Deep
