@@ -1,6 +1,6 @@
 -- Behind lists in which each array of tables has as many tables, but for arrays that the lines do not see, lines without keys of their own
 -- sections stand alike.
-use Rattle.std.proofs.Common.{◌≡◌, ◌⊎◌, inl, inr, ℕ, ◌+◌, false, Option, Some, List, [], ◌∷◌, ◌++◌, length, refl, sym, ap, ap₂, ◌∙◌, true≢false, append-nil}
+use Rattle.std.proofs.Common.{◌≡◌, ◌⊎◌, inl, inr, ℕ, ◌+◌, true, false, Option, Some, List, [], ◌∷◌, ◌++◌, length, refl, sym, ap, ap₂, ◌∙◌, true≢false, append-nil}
 use Rattle.std.specs.List.{list_any}
 use Rattle.std.specs.Prelude.{◌==◌, ◌-◌, if◌then◌else◌}
 use Rattle.std.proofs.lemmas.Bool.{or_parts}
@@ -24,13 +24,13 @@ use Rattle.toml_editor.proofs.written.DocumentSections.{begins_longer}
 use Rattle.toml_editor.proofs.written.EmptyAlone.{first_under, under_trans}
 use Rattle.toml_editor.proofs.written.UnitsAlike.{step_alike}
 
--- each array of tables has as many tables in both
-abbrev pub AreCounted : List Named → List Named → Type 0
-AreCounted xs ys = (at : Address) → count_tables xs at ≡ count_tables ys at
-
--- or else it is not seen
+-- each array of tables has as many tables in both, or else it is not seen
 abbrev pub AreCountedBut : (Address → Type 0) → List Named → List Named → Type 0
 AreCountedBut Unseen xs ys = (at : Address) → Unseen at ⊎ (count_tables xs at ≡ count_tables ys at)
+
+-- what lies at an address or below it begins with it
+pub under_begins : (q a : Address) → IsUnder q a → begins q a ≡ true
+under_begins q a (rest, is) = ap (begins q) is ∙ begins_longer q rest
 
 -- by a line of this address: it stands neither at the array nor below it
 abbrev pub IsUnseen : Option Address → Address → Type 0
@@ -44,8 +44,8 @@ AreUnseen ss at = list_any (is_below at) ss ≡ false
 
 module _ (xs ys : List Named) (own : Address) (same : AreCountedBut (IsUnseen (Some own)) xs ys) where
   counted_above : (at : Address) → IsUnder at own → count_tables xs at ≡ count_tables ys at
-  counted_above at (r, is) = elim (same at) [
-    | inl none ↦ absurd (true≢false (sym (begins_longer at r) ∙ ap (begins at) (sym is) ∙ none))
+  counted_above at under = elim (same at) [
+    | inl none ↦ absurd (true≢false (sym (under_begins at own under) ∙ none))
     | inr counted ↦ counted
   ]
 
@@ -205,6 +205,3 @@ standing_same (l ∷ ls) xs ys n m same =
     ap₂ (λ s t. s ∷ t)
     (ap₂ (λ (a : Option Address) (b : Option ℕ). record { address = a; base = b; outline = line_outline l }) same.0 same.1)
     (standing_same ls (xs ++ named_by xs n l.expr) (ys ++ named_by ys m l.expr) (n + 1) (m + 1) same.2)
-
-pub stand_counted : (ls : List Line) (xs ys : List Named) (n m : ℕ) → AreCounted xs ys → has_pair ls ≡ false → standing_from xs n ls ≡ standing_from ys m ls
-stand_counted ls xs ys n m same unkeyed = standing_same ls xs ys n m (stand_same ls xs ys n m (inr unkeyed) (λ at. inr (same at)))

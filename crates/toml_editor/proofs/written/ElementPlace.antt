@@ -24,7 +24,7 @@ use Rattle.toml_working.specs.Placing.{is_header}
 use Rattle.toml_working.specs.Standing.{Standing, holds, is_below, lies_below, line_stands, standing, standing_from}
 use Rattle.toml_editor.proofs.written.Alike.{section_pair}
 use Rattle.toml_editor.proofs.written.Counted.{names_last}
-use Rattle.toml_editor.proofs.written.CountedApart.{under_begins}
+use Rattle.toml_editor.proofs.written.CountedAlike.{under_begins}
 use Rattle.toml_editor.proofs.written.DocumentSections.{named_next}
 use Rattle.toml_editor.proofs.written.ElementCounted.{apart_element, next_leads}
 use Rattle.toml_editor.proofs.written.ElementHeaded.{element_headed, inner_is, none_holds}

@@ -23,7 +23,7 @@ use Rattle.toml_working.specs.Seeing.{heads_below, is_dotted}
 use Rattle.toml_working.specs.Standing.{Standing, holds, is_below, lies_below, standing, standing_from}
 use Rattle.toml_working.specs.HeadingFollowed.{header_followed, header_line_behind, line_behind_family, or_header_at_end}
 use Rattle.toml_editor.proofs.written.Counted.{AreLast, last_child, same_last}
-use Rattle.toml_editor.proofs.written.CountedApart.{under_begins}
+use Rattle.toml_editor.proofs.written.CountedAlike.{under_begins}
 use Rattle.toml_editor.proofs.written.ElementCounted.{apart_element, next_leads}
 use Rattle.toml_editor.proofs.written.ElementHeaded.{away_unnamed, none_holds, some_named}
 use Rattle.toml_editor.proofs.written.EmptyAlone.{IsAway, not_any}

@@ -1,18 +1,14 @@
 -- The lines with a new header line: where it stands, and what then stands on the lines.
-use Rattle.std.proofs.Common.{◌≡◌, inl, ℕ, ◌+◌, Bool, true, false, cond, ◌&&◌, Option, Some, None, List, [], ◌∷◌, ◌++◌, map, length, length-append, refl, sym, ap, ap₂, ◌∙◌, subst, true≢false, append-nil, append_assoc, arith}
+use Rattle.std.proofs.Common.{◌≡◌, inr, ℕ, ◌+◌, false, Option, Some, None, List, [], ◌∷◌, ◌++◌, map, length, length-append, refl, sym, ap, ap₂, ◌∙◌, subst, true≢false, append-nil, append_assoc}
 use Rattle.std.proofs.lemmas.List.{map-append}
-use Rattle.std.proofs.lemmas.Option.{same_Some}
 use Rattle.toml_scalar.specs.Spelling.{spelled}
 use Rattle.toml_tree.specs.Bare.{fresh}
-use Rattle.toml_tree.specs.Spells.{AreLines, EachIs}
+use Rattle.toml_tree.specs.Spells.{EachIs}
 use Rattle.toml_tree.specs.Tree.{Expr, BlankLine, KeyValLine, TableLine, ArrayTableLine, Line}
-use Rattle.toml_names.specs.declared.model.address.Step.{Step}
-use Rattle.toml_names.specs.declared.model.address.Step.TheVariants.{Index, Name}
-use Rattle.toml_names.specs.mentions.Keys.{key_names, part_name, rest_names}
-use Rattle.toml_names.specs.mentions.Mentions.{Named, count_tables, named, named_by, root}
+use Rattle.toml_names.specs.declared.model.address.Step.TheVariants.{Index}
+use Rattle.toml_names.specs.mentions.Mentions.{Named, count_tables, named, named_by}
 use Rattle.toml_names.specs.model.Addresses.{Address}
-use Rattle.toml_names.specs.reader.Names.{header_end, own_address}
-use Rattle.toml_names.proofs.Proved.{count-append}
+use Rattle.toml_names.specs.reader.Names.{own_address}
 use Rattle.toml_units.specs.Units.{line_base}
 use Rattle.toml_layout.specs.NewKeys.{bare_part}
 use Rattle.toml_layout.specs.Outlines as outline
@@ -26,20 +22,16 @@ use Rattle.toml_working.specs.Heading.{Shown, dotted_name, header_expr, header_l
 use Rattle.toml_working.specs.Headers.{has_below, has_no_bytes, header_outline, inner_of, innermost, names_of, new_header, put_plainly}
 use Rattle.toml_working.specs.Headers as headers
 use Rattle.toml_working.specs.Inserting.{has_pair}
-use Rattle.toml_working.specs.InsertStanding.{end_in}
 use Rattle.toml_working.specs.Removing.{no_blank}
 use Rattle.toml_working.specs.Placing.{is_header}
-use Rattle.toml_working.specs.Standing.{Standing, line_stands, is_below, standing, standing_from}
-use Rattle.toml_editor.proofs.written.Clear.{differ}
-use Rattle.toml_editor.proofs.written.Counted.{count_array, count_table, counts_stay, one_if, own_counts}
-use Rattle.toml_editor.proofs.written.CountedAlike.{stand_counted}
-use Rattle.toml_editor.proofs.written.CountedApart.{stand_apart}
+use Rattle.toml_working.specs.Standing.{Standing, line_stands, standing, standing_from}
+use Rattle.toml_editor.proofs.written.Counted.{counts_stay, own_counts}
+use Rattle.toml_editor.proofs.written.CountedAlike.{stand_same, standing_same}
+use Rattle.toml_editor.proofs.written.HeaderCounted.{back_apart, header_counted}
 use Rattle.toml_editor.proofs.written.DocumentSections.{named_next}
-use Rattle.toml_editor.proofs.written.EmptyAlone.{not_any}
 use Rattle.toml_editor.proofs.written.HeaderPut.{IsApart}
 use Rattle.toml_editor.proofs.written.HeaderSplit.{IsHeadlessShown, IsOutlined, lines_of, stand_of}
 use Rattle.toml_editor.proofs.written.InsertPlace.{IsHeadless}
-use Rattle.toml_editor.proofs.written.PutStands.{ends_same}
 
 -- ---- lines, each with what stands on it
 
@@ -158,31 +150,12 @@ header_outlined Two p ws newline = outlined Two ws newline (names_of p)
 others_stand : (brackets : Brackets) (p : Address) (front back : List Line) (ws : List ℕ) → own_address (named front) (header_expr brackets p ws) ≡ Some p
     → IsApart brackets p front back → has_pair back ≡ false
     → standing_from (named front ++ named_by (named front) (length front) (header_expr brackets p ws)) (length front + 1) back ≡ standing_from (named front) (length front) back
-others_stand One p front back ws leads apart unkeyed =
-    stand_counted back (named front ++ named_by (named front) (length front) (header_expr One p ws)) (named front) (length front + 1) (length front) same unkeyed
-  where
-    same : (x : Address) → count_tables (named front ++ named_by (named front) (length front) (header_expr One p ws)) x ≡ count_tables (named front) x
-    same x =
-        let all = count-append (named front) (named_by (named front) (length front) (header_expr One p ws)) x in
-        let key = key_named (names_of p) in
-        let none = count_table (named front) (length front) x (part_name key.first) (rest_names key.rest) in
-        omega (arith, all, none)
-others_stand Two p front back ws leads apart unkeyed =
-    sym (stand_apart at back xs (xs ++ named_by xs (length front) (header_expr Two p ws)) (length front) (length front + 1) same (inl unkeyed)
-    (not_any (is_below at) (standing_from xs (length front) back) (apart at (count_tables xs at) (sym (same_Some _ p leads)))))
-  where
-    xs : List Named
-    xs = named front
-
-    at : Address
-    at = header_end xs [] (key_names (key_named (names_of p)))
-
-    same : (x : Address) → ¬ (x ≡ at) → count_tables xs x ≡ count_tables (xs ++ named_by xs (length front) (header_expr Two p ws)) x
-    same x other =
-        let all = count-append xs (named_by xs (length front) (header_expr Two p ws)) x in
-        let key = key_named (names_of p) in
-        let none = count_array xs (length front) x (part_name key.first) (rest_names key.rest) ∙ ap one_if (differ at x (λ is. other (sym is))) in
-        omega (arith, all, none)
+others_stand brackets p front back ws leads apart unkeyed =
+    let xs = named front in
+    let n = length front in
+    let ys = xs ++ named_by xs n (header_expr brackets p ws) in
+    sym (standing_same back xs ys n (n + 1)
+    (stand_same back xs ys n (n + 1) (inr unkeyed) (header_counted brackets p ws xs n _ leads (back_apart brackets p front back apart))))
 
 base_none : (brackets : Brackets) (p : Address) (ws newline : List ℕ) (xs : List Named) → own_address xs (header_expr brackets p ws) ≡ Some p
     → line_stands xs (header_line brackets p ws newline) ≡ new_header p brackets ws newline

@@ -1,20 +1,17 @@
 -- The units after a new header line.
-use Rattle.std.proofs.Common.{◌≡◌, ◌⊎◌, inl, inr, ℕ, suc, ◌+◌, Bool, true, false, Option, Some, None, List, [], ◌∷◌, ◌++◌, map, length}
+use Rattle.std.proofs.Common.{◌≡◌, ◌⊎◌, inl, inr, ℕ, suc, ◌+◌, true, false, Option, Some, None, List, [], ◌∷◌, ◌++◌, map, length}
 use Rattle.std.proofs.Common.{refl, sym, ap, ap₂, ◌∙◌, subst, subst₂, true≢false, append_assoc, append-nil, length-append, arith}
-use Rattle.std.specs.List.{flat_map, join_by, list_any}
+use Rattle.std.specs.List.{flat_map, join_by}
 use Rattle.std.specs.Prelude.{option_map, slice_get}
-use Rattle.std.proofs.lemmas.Option.{same_Some}
 use Rattle.toml_text.specs.Forms.{IsComment}
 use Rattle.toml_scalar.specs.Spelling.{spelled}
 use Rattle.toml_tree.specs.Bare.{fresh}
 use Rattle.toml_tree.specs.Pieces.{expr_piece}
 use Rattle.toml_tree.specs.Spells.{AreLines, IsCommentOrNone, IsExpr, Part, all_parts, comment_parts, dotted_parts, expr_parts, joined, key_parts, piece, symbol}
 use Rattle.toml_tree.specs.Tree.{Piece, Expr, BlankLine, KeyValLine, TableLine, ArrayTableLine, Line}
-use Rattle.toml_names.specs.model.Addresses.{Address, element, same_address}
-use Rattle.toml_names.specs.mentions.Keys.{key_names, part_name, rest_names}
-use Rattle.toml_names.specs.mentions.Mentions.{Named, count_tables, named, named_by, root}
-use Rattle.toml_names.specs.reader.Names.{header_end, own_address}
-use Rattle.toml_names.proofs.Proved.{count-append}
+use Rattle.toml_names.specs.model.Addresses.{Address}
+use Rattle.toml_names.specs.mentions.Mentions.{Named, named, named_by, root}
+use Rattle.toml_names.specs.reader.Names.{own_address}
 use Rattle.toml_units.specs.Units.{TextUnit, comment_units, inside_line, line_units, units, units_from}
 use Rattle.toml_units.specs.declared.unit.UnitKind.TheVariants as kinds
 use Rattle.toml_layout.specs.Outlines as outline
@@ -25,12 +22,11 @@ use Rattle.toml_working.specs.Heading.{dotted_name, header_expr, header_line, ke
 use Rattle.toml_working.specs.Headers.{has_no_bytes, names_of}
 use Rattle.toml_working.specs.Inserting.{has_pair}
 use Rattle.toml_working.specs.Removing.{empty_line}
-use Rattle.toml_working.specs.Standing.{is_below, standing_from}
+use Rattle.toml_working.specs.Standing.{standing_from}
 use Rattle.toml_editor.specs.UnitBlocks.{header_line_units, header_text, line_of_nothing}
 use Rattle.toml_editor.proofs.written.Alike.{alike_self}
-use Rattle.toml_editor.proofs.written.Clear.{same_is}
-use Rattle.toml_editor.proofs.written.Counted.{count_array, count_table, one_if}
-use Rattle.toml_editor.proofs.written.CountedAlike.{AreCountedBut, AreUnseen, StandSame, stand_same}
+use Rattle.toml_editor.proofs.written.CountedAlike.{StandSame, stand_same}
+use Rattle.toml_editor.proofs.written.HeaderCounted.{AreApart, back_apart, header_counted}
 use Rattle.toml_editor.proofs.written.HeaderPut.{IsApart, IsHeaderPut, IsPutBefore, IsPutBlank, IsPutLast, ended}
 use Rattle.toml_editor.proofs.written.InsertSpaced.{line_formed}
 use Rattle.toml_editor.proofs.written.LastLines.{LastIsFull, full_inner, full_line, tail_no_line}
@@ -129,44 +125,6 @@ new_units Two p ws xs leads =
         (append_assoc (key ++ closing) other (piece (fresh []) ∷ []) ∙ append_assoc key closing (other ++ piece (fresh []) ∷ []))
         ∙ key_is (names_of p) (closing ++ (other ++ piece (fresh []) ∷ [])))
 
--- Behind it lines that are apart from it are counted alike.
-abbrev IsApartIn : Brackets → Address → List Line → List Named → Type 0
-IsApartIn One p back xs = Unit {0}
-IsApartIn Two p back xs = (q : Address) (i : ℕ) → p ≡ element q i → list_any (is_below q) (standing_from xs 0 back) ≡ false
-
-apart_in : (brackets : Brackets) (p : Address) (front back : List Line) → IsApart brackets p front back → IsApartIn brackets p back (named front)
-apart_in One p front back apart = tt
-apart_in Two p front back apart =
-    λ q i is. ap (list_any (is_below q)) (stand_alike back (named front) (named front) 0 (length front) (alike_self (named front))) ∙ apart q i is
-
-header_counted : (brackets : Brackets) (p : Address) (ws : List ℕ) (back : List Line) (xs : List Named) (n : ℕ)
-    → own_address xs (header_expr brackets p ws) ≡ Some p → IsApartIn brackets p back xs
-    → AreCountedBut (AreUnseen (standing_from xs n back)) xs (xs ++ named_by xs n (header_expr brackets p ws))
-header_counted One p ws back xs n leads apart at =
-    let new = named_by xs n (header_expr One p ws) in
-    let key = key_named (names_of p) in
-    let none : count_tables new at ≡ 0 = count_table xs n at (part_name key.first) (rest_names key.rest) in
-    let all = count-append xs new at in
-    inr (omega (arith, none, all))
-header_counted Two p ws back xs n leads apart at = by (same_address array at) refl
-  where
-    new : List Named
-    new = named_by xs n (header_expr Two p ws)
-
-    array : Address
-    array = header_end xs [] (key_names (key_named (names_of p)))
-
-    by : (b : Bool) → same_address array at ≡ b → AreUnseen (standing_from xs n back) at ⊎ (count_tables xs at ≡ count_tables (xs ++ new) at)
-    by true same =
-        inl (ap (list_any (is_below at)) (stand_alike back xs xs n 0 (alike_self xs))
-        ∙ subst (λ x. list_any (is_below x) (standing_from xs 0 back) ≡ false) (same_is array at same)
-            (apart array (count_tables xs array) (sym (same_Some _ p leads))))
-    by false other =
-        let key = key_named (names_of p) in
-        let none : count_tables new at ≡ 0 = count_array xs n at (part_name key.first) (rest_names key.rest) ∙ ap one_if other in
-        let all = count-append xs new at in
-        inr (omega (arith, none, all))
-
 -- ---- where it is put in
 
 module _ (brackets : Brackets) (p : Address) (style ws : List ℕ) where
@@ -191,13 +149,16 @@ module _ (brackets : Brackets) (p : Address) (style ws : List ℕ) where
   well_before front (m ∷ ms) old new put leads unkeyed apart =
       subst₂ Alone (sym put.was) (sym put.is)
       (put_among (AreLines (front ++ m ∷ ms)) block m ms (header_line brackets p ws style ∷ m ∷ ms) []
-      (λ xs. (own_address xs header ≡ Some p) × IsApartIn brackets p (m ∷ ms) xs)
+      (λ xs. (own_address xs header ≡ Some p) × AreApart brackets p (standing_from xs 0 (m ∷ ms)))
       (λ xs n there. put_before (AreLines (front ++ m ∷ ms)) header block xs n n (m ∷ ms) style (new_units brackets p ws xs there.0)
       (units_same (m ∷ ms) xs (xs ++ named_by xs n header) n (n + 1)
-      (stand_same (m ∷ ms) xs (xs ++ named_by xs n header) n (n + 1) (inr unkeyed) (header_counted brackets p ws (m ∷ ms) xs n there.0 there.1))))
+      (stand_same (m ∷ ms) xs (xs ++ named_by xs n header) n (n + 1) (inr unkeyed)
+      (header_counted brackets p ws xs n (standing_from xs n (m ∷ ms)) there.0
+      (subst (AreApart brackets p) (stand_alike (m ∷ ms) xs xs 0 n (alike_self xs)) there.1)))))
       front (root ∷ []) 0
-      (subst (λ ls. (own_address (named ls) header ≡ Some p) × IsApartIn brackets p (m ∷ ms) (named ls)) (sym (append-nil front))
-      (leads, apart_in brackets p front (m ∷ ms) apart)))
+      (subst (λ ls. (own_address (named ls) header ≡ Some p) × AreApart brackets p (standing_from (named ls) 0 (m ∷ ms))) (sym (append-nil front))
+      (leads, subst (AreApart brackets p) (stand_alike (m ∷ ms) (named front) (named front) (length front) 0 (alike_self (named front)))
+      (back_apart brackets p front (m ∷ ms) apart))))
 
   well_last : (front back old new : List Line) → IsPutLast brackets p style ws front back old new → Leads front → Alone old new
   well_last front back old new put leads =
