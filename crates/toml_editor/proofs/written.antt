@@ -28,6 +28,7 @@ pub mod EmptyKept
 pub mod EmptyLines
 pub mod EmptyNamed
 pub mod EmptyStands
+pub mod EndsBare
 pub mod Examples
 pub mod ExamplesBelow
 pub mod ExamplesHeaded
