@@ -11,7 +11,6 @@ pub mod Clear
 pub mod Closed
 pub mod Counted
 pub mod CountedAlike
-pub mod CountedApart
 pub mod CountedArrays
 pub mod Deep
 pub mod DocumentSections
@@ -63,6 +62,7 @@ pub mod InsertSpaced
 pub mod InsertStands
 pub mod Inside
 pub mod KeptApart
+pub mod LastBare
 pub mod LastLines
 pub mod Made
 pub mod Members

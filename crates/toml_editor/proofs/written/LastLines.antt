@@ -65,7 +65,7 @@ pair_long ws k b =
     omega (arith, all, line, pair, assign, some)
 
 -- and one with a comment has that
-comment_long : (ws : List ℕ) (c : Option Piece) → is_some c ≡ true → IsCommentOrNone c → 0 < length (ws ++ joined (comment_parts c))
+pub comment_long : (ws : List ℕ) (c : Option Piece) → is_some c ≡ true → IsCommentOrNone c → 0 < length (ws ++ joined (comment_parts c))
 comment_long ws None some is = absurd (true≢false (sym some))
 comment_long ws (Some p) some is =
     let all = length-append ws (p.text ++ []) in
@@ -78,13 +78,13 @@ comment_long ws (Some p) some is =
     text_long (b ∷ bs) is = omega arith
 
 -- and a header its brackets
-table_long : (ws : Piece) (h : Header) (b : Blank) → 0 < length (joined (expr_parts (TableLine ws h b)))
+pub table_long : (ws : Piece) (h : Header) (b : Blank) → 0 < length (joined (expr_parts (TableLine ws h b)))
 table_long ws h b =
     let all = length-append ws.text (joined (header_parts h ++ blank_parts b)) in
     let some : 0 < length (joined (header_parts h ++ blank_parts b)) = omega arith in
     omega (arith, all, some)
 
-array_long : (ws : Piece) (h : Header) (b : Blank) → 0 < length (joined (expr_parts (ArrayTableLine ws h b)))
+pub array_long : (ws : Piece) (h : Header) (b : Blank) → 0 < length (joined (expr_parts (ArrayTableLine ws h b)))
 array_long ws h b =
     let all = length-append ws.text (joined (array_header_parts h ++ blank_parts b)) in
     let some : 0 < length (joined (array_header_parts h ++ blank_parts b)) = omega arith in
