@@ -10,13 +10,14 @@ pub mod Certify
 pub mod Clear
 pub mod Closed
 pub mod Counted
-pub mod CountedApart
 pub mod CountedAlike
 pub mod CountedArrays
 pub mod Deep
 pub mod DocumentSections
 pub mod ElementCounted
 pub mod ElementHeaded
+pub mod ElementKept
+pub mod ElementNamed
 pub mod ElementPlace
 pub mod Elsewhere
 pub mod EmptiedLine
@@ -35,6 +36,8 @@ pub mod FollowedFacts
 pub mod FollowedPlace
 pub mod FollowedSplit
 pub mod Formed
+pub mod HeaderCounted
+pub mod HeaderKept
 pub mod HeaderLeads
 pub mod HeaderPlace
 pub mod HeaderPut
@@ -85,7 +88,6 @@ pub mod SectionFormed
 pub mod SectionKept
 pub mod SectionNamed
 pub mod SectionRoles
-pub mod SectionTables
 pub mod SetFormed
 pub mod SetKept
 pub mod SetNamed

@@ -1,10 +1,10 @@
 -- What one line more, or one fewer, names: the numbers of lines aside, a block in what the others name.
-use Rattle.std.specs.Prelude.{◌≡◌, List, [], ◌∷◌, ◌++◌, map}
+use Rattle.std.specs.Prelude.{◌≡◌, ℕ, List, [], ◌∷◌, ◌++◌, map}
 use Rattle.toml_tree.specs.Tree.{Value, Line}
-use Rattle.toml_names.specs.declared.mentions.mention.Role.TheVariants.{Passed, Header, Valued}
+use Rattle.toml_names.specs.declared.mentions.mention.Role.TheVariants.{Passed, Valued, Tables, Element}
 use Rattle.toml_names.specs.declared.model.address.Step.TheVariants.{Name, Index}
 use Rattle.toml_names.specs.model.Addresses.{Address, child, element}
-use Rattle.toml_names.specs.mentions.Mentions.{Named, named, table_at, value_named, inside}
+use Rattle.toml_names.specs.mentions.Mentions.{Named, an_array, named, table_at, ends_table, value_named, inside}
 
 -- the same thing, as of the first line
 abbrev pub unnumbered : Named → Named
@@ -25,13 +25,22 @@ pub record IsPut (old block new : List Named) : Type 0 where
 abbrev pub value_block : Address → Value → List Named
 value_block at v = value_named 0 Valued at v ∷ inside 0 at v
 
--- what the header of a table names below an address: each table, or element of an array of tables, that its key passes, and the table
-abbrev pub passed_from : Address → Address → List Named
-passed_from at [] = []
-passed_from at (Index i ∷ steps) = passed_from (element at i) steps
-passed_from at (Name n ∷ []) = table_at 0 Header (child at n) ∷ []
-passed_from at (Name n ∷ Name m ∷ steps) = table_at 0 Passed (child at n) ∷ passed_from (child at n) (Name m ∷ steps)
-passed_from at (Name n ∷ Index i ∷ steps) = table_at 0 Passed (element (child at n) i) ∷ passed_from (element (child at n) i) steps
+-- what a header names below an address: each table, or element of an array of tables, that its key passes, and what stands at its end
+abbrev pub passed_from : (Address → List Named) → Address → Address → List Named
+passed_from end at [] = []
+passed_from end at (Index i ∷ steps) = passed_from end (element at i) steps
+passed_from end at (Name n ∷ []) = end (child at n)
+passed_from end at (Name n ∷ Name m ∷ steps) = table_at 0 Passed (child at n) ∷ passed_from end (child at n) (Name m ∷ steps)
+passed_from end at (Name n ∷ Index i ∷ steps) = table_at 0 Passed (element (child at n) i) ∷ passed_from end (element (child at n) i) steps
 
+-- what the header of a table names: each table that its key passes, and the table
 abbrev pub section_block : Address → List Named
-section_block = passed_from []
+section_block = passed_from (ends_table 0) []
+
+-- an array of tables, and this element
+abbrev pub ends_element : ℕ → Address → List Named
+ends_element i at = record { address = at; role = Tables; kind = an_array; line = 0 } ∷ table_at 0 Element (element at i) ∷ []
+
+-- what the header of an element names: each table that its key passes, the array and the element
+abbrev pub element_block : Address → ℕ → List Named
+element_block q i = passed_from (ends_element i) [] q

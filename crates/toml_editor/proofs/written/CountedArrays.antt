@@ -33,7 +33,7 @@ abbrev AreArrays : Address → List Named → Type 0
 AreArrays r xs = ¬ (count_tables xs r ≡ 0) → IsNamedLast r × Has (IsArrayAt r) xs
 
 -- a header names what its end names
-followed_has : (P : Named → Type 0) (xs : List Named) (line : ℕ) (end : Address → List Named) (key : Key) (n : List ℕ) (at : Address)
+pub followed_has : (P : Named → Type 0) (xs : List Named) (line : ℕ) (end : Address → List Named) (key : Key) (n : List ℕ) (at : Address)
     → Has P (end (header_end xs at (n ∷ key))) → Has P (followed line xs end at (n ∷ key))
 followed_has P xs line end [] n at h = h
 followed_has P xs line end (m ∷ more) n at h = inr (followed_has P xs line end more m (entered xs (child at n)) h)

@@ -10,7 +10,7 @@ use Rattle.toml_tree.specs.Tree.{Expr, BlankLine, KeyValLine, TableLine, ArrayTa
 use Rattle.toml_names.specs.declared.model.address.Step.{Step}
 use Rattle.toml_names.specs.declared.model.address.Step.TheVariants.{Name, Index}
 use Rattle.toml_names.specs.mentions.Keys.{Key, key_names, part_name, rest_names}
-use Rattle.toml_names.specs.mentions.Mentions.{Kind, Named, a_table, an_array, count_tables, named, named_by, named_from, root, section}
+use Rattle.toml_names.specs.mentions.Mentions.{Kind, Named, a_table, an_array, count_tables, ends_tables, named, named_by, named_from, root, section}
 use Rattle.toml_names.specs.mentions.Rules.{KeepsRules}
 use Rattle.toml_names.specs.model.Addresses.{Address, below, child, element, same_address}
 use Rattle.toml_names.specs.model.Data.{IsDataOf, Kinds}
@@ -25,10 +25,9 @@ use Rattle.toml_working.specs.Headers.{has_below, names_of}
 use Rattle.toml_working.specs.Removing.{no_blank}
 use Rattle.toml_working.specs.Seeing.{is_sought_line}
 use Rattle.toml_working.specs.Standing.{Standing, holds, is_below, leads_to, lies_below, standing, standing_from}
-use Rattle.toml_editor.proofs.written.Clear.{below-cons, same_is}
+use Rattle.toml_editor.proofs.written.Clear.{IsUnder, below-cons, same_is}
 use Rattle.toml_editor.proofs.written.Counted.{AreLast, count_array, count_next, count_none, count_pair, count_table, counts_grow, last_step, one_if, own_counts, same_last}
-use Rattle.toml_editor.proofs.written.CountedApart.{under_begins}
-use Rattle.toml_editor.proofs.written.CountedArrays.{IsNamedLast, element_unnamed}
+use Rattle.toml_editor.proofs.written.CountedArrays.{IsNamedLast, element_unnamed, followed_has}
 use Rattle.toml_editor.proofs.written.DocumentSections.{begins_longer, line_of, named_next}
 use Rattle.toml_editor.proofs.written.ElementHeaded.{some_named, unheaded_unnamed}
 use Rattle.toml_editor.proofs.written.EmptyAlone.{not_any}
@@ -38,7 +37,12 @@ use Rattle.toml_editor.proofs.written.HeaderPut.{IsApart}
 use Rattle.toml_editor.proofs.written.OneSection.{among_of}
 use Rattle.toml_editor.proofs.written.Pairwise.{Has, any_of_has, has_append_left, has_append_right, has_weaker}
 use Rattle.toml_editor.proofs.written.SectionFacts.{IsNextElement}
-use Rattle.toml_editor.proofs.written.StandingOrder.{Own, begins_is, own_named}
+use Rattle.toml_editor.proofs.written.SectionNamed.{names_of_element}
+use Rattle.toml_editor.proofs.written.StandingOrder.{begins_is}
+
+-- what lies at an address or below it begins with it
+pub under_begins : (q a : Address) → IsUnder q a → begins q a ≡ true
+under_begins q a (rest, is) = ap (begins q) is ∙ begins_longer q rest
 
 abbrev IsAt : Address → Named → Type 0
 IsAt at m = m.address ≡ at
@@ -72,11 +76,9 @@ module _ (q : Address) where
       by : (b : Bool) → same_address at q ≡ b
           → (count_tables (named_by xs line (ArrayTableLine ws header tail)) q ≡ 1) × Has (IsAt (element q (count_tables xs q))) (named_by xs line (ArrayTableLine ws header tail))
       by true same =
-          let a = element at (count_tables xs at) in
-          let own : own_address xs (ArrayTableLine ws header tail) ≡ Some (element q (count_tables xs q)) = ap (λ x. Some (element x (count_tables xs x))) (same_is at q same) in (
+          let one : element at (count_tables xs at) ≡ element q (count_tables xs q) = ap (λ x. element x (count_tables xs x)) (same_is at q same) in (
             counted ∙ ap one_if same,
-            has_weaker (Own (line_base xs (ArrayTableLine ws header tail)) (element q (count_tables xs q))) (IsAt (element q (count_tables xs q))) (λ m h. h.0)
-                (named_by xs line (ArrayTableLine ws header tail)) (own_named xs line (ArrayTableLine ws header tail) (element q (count_tables xs q)) own),
+            followed_has (IsAt (element q (count_tables xs q))) xs line (ends_tables line xs) (rest_names header.key.rest) (part_name header.key.first) [] (inr (inl one)),
           )
       by false other = absurd (some (counted ∙ ap one_if other))
 
@@ -221,19 +223,13 @@ module _ (q : Address) where
 
 -- ---- the key
 
--- an index adds no name
-index_named : (q : Address) (i : ℕ) → names_of (element q i) ≡ names_of q
-index_named [] i = refl
-index_named (Name n ∷ q) i = ap (λ r. n ∷ r) (index_named q i)
-index_named (Index j ∷ q) i = index_named q i
-
 -- The key of an element's header leads to it, from where each index of the array's address is that of the last table of its array, and the array
 -- has as many tables as the index says.
 element_leads : (lines front back : List Line) (r : Address) (n : List ℕ) (i : ℕ) (ws : List ℕ) (kinds : Kinds) → lines ≡ front ++ back → KeepsRules (named lines)
     → IsDataOf (named lines) kinds → kinds r ≡ Some a_table → AreLast (named front) (child r n) → count_tables (named front) (child r n) ≡ i
     → own_address (named front) (header_expr Two (element (child r n) i) ws) ≡ Some (element (child r n) i)
 element_leads lines front back r n i ws kinds parts keeps facts table last count =
-    ap (λ ns. own_address xs (header_expr_of ns)) (index_named q i)
+    ap (λ ns. own_address xs (header_expr_of ns)) (names_of_element q i)
     ∙ ap (λ at. Some (element at (count_tables xs at))) (same_Some _ q leads_there) ∙ ap (λ c. Some (element q c)) count
   where
     q : Address

@@ -24,16 +24,15 @@ use Rattle.toml_working.specs.Placing.{is_header}
 use Rattle.toml_working.specs.Standing.{Standing, holds, is_below, lies_below, line_stands, standing, standing_from}
 use Rattle.toml_editor.proofs.written.Alike.{section_pair}
 use Rattle.toml_editor.proofs.written.Counted.{names_last}
-use Rattle.toml_editor.proofs.written.CountedApart.{under_begins}
 use Rattle.toml_editor.proofs.written.DocumentSections.{named_next}
-use Rattle.toml_editor.proofs.written.ElementCounted.{apart_element, next_leads}
+use Rattle.toml_editor.proofs.written.ElementCounted.{apart_element, next_leads, under_begins}
 use Rattle.toml_editor.proofs.written.ElementHeaded.{element_headed, inner_is, none_holds}
 use Rattle.toml_editor.proofs.written.EmptyAlone.{not_any}
 use Rattle.toml_editor.proofs.written.HeaderPlace.{header_put, header_unkeyed}
 use Rattle.toml_editor.proofs.written.HeaderPut.{IsApart}
 use Rattle.toml_editor.proofs.written.HeaderSplit.{NextHeader, lines_of}
 use Rattle.toml_editor.proofs.written.HeaderStood.{parts}
-use Rattle.toml_editor.proofs.written.HeaderThere.{IsPutThere}
+use Rattle.toml_editor.proofs.written.HeaderThere.{IsPlaced}
 use Rattle.toml_editor.proofs.written.SectionFacts.{IsNextElement}
 use Rattle.toml_editor.proofs.written.TablesStay.{begins_under}
 
@@ -105,7 +104,7 @@ module _ (e array : Address) (i : ℕ) (e_is : e ≡ element array i) (rest : Ad
 -- by layout `Plain` the header line goes where it may stand
 pub element_goes : (q : Address) (i : ℕ) (style : List ℕ) (lines : List Line) (kinds : Kinds) → AreLines lines → KeepsRules (named lines) → IsDataOf (named lines) kinds
     → IsNextElement q i kinds → list_any (holds q) (standing lines) ≡ false
-    → IsPutThere Two (element q i) style lines (header_lines q Two (element q i) style lines) (put_plainly (innermost q) (new_header (element q i) Two []) style (standing lines))
+    → IsPlaced Two (element q i) style lines (header_lines q Two (element q i) style lines) (put_plainly (innermost q) (new_header (element q i) Two []) style (standing lines))
 element_goes q i style lines kinds forms keeps facts next outside =
     header_put Two (element q i) q style lines forms (next_leads q i lines kinds keeps facts next outside []) headed apart
   where

@@ -40,27 +40,35 @@ fronts_deep s (n ∷ m ∷ more) =
           (fronts 0 (child s n) (m ∷ more)) (fronts_deep (child s n) (m ∷ more)),
     )
 
-each_both : {A : Type 0} (P Q : A → Type 0) (xs : List A) → EachIs P xs → EachIs Q xs → EachIs (λ x. P x × Q x) xs
+pub each_both : {A : Type 0} (P Q : A → Type 0) (xs : List A) → EachIs P xs → EachIs Q xs → EachIs (λ x. P x × Q x) xs
 each_both P Q [] h k = tt
 each_both P Q (x ∷ xs) h k = ((h.0, k.0), each_both P Q xs h.1 k.1)
 
 pub under_trans : (a b c : Address) → IsUnder a b → IsUnder b c → IsUnder a c
 under_trans a b c (r, is) (t, at) = (r ++ t, at ∙ ap (λ x. x ++ t) is ∙ append_assoc a r t)
 
+-- where a header goes on lies below what it passes
+entered_under : (xs : List Named) (at e : Address) → IsUnder at e → IsUnder at (entered xs e)
+entered_under xs at e under = by (count_tables xs e == 0)
+  where
+    by : (b : Bool) → IsUnder at (cond b e (element e (count_tables xs e - 1)))
+    by true = under
+    by false = under_trans at e (element e (count_tables xs e - 1)) under (Index (count_tables xs e - 1) ∷ [], refl)
+
 -- what a header passes lies above where its key ends
-pub end_under : (xs : List Named) (key : Key) (at : Address) → IsUnder at (header_end xs at key)
+end_under : (xs : List Named) (key : Key) (at : Address) → IsUnder at (header_end xs at key)
 end_under xs [] at = ([], sym (append-nil at))
 end_under xs (n ∷ []) at = (Name n ∷ [], refl)
 end_under xs (n ∷ m ∷ more) at =
-    under_trans at (entered xs (child at n)) (header_end xs (entered xs (child at n)) (m ∷ more)) (in_table (child at n) (Name n ∷ [], refl))
+    under_trans at (entered xs (child at n)) (header_end xs (entered xs (child at n)) (m ∷ more)) (entered_under xs at (child at n) (Name n ∷ [], refl))
     (end_under xs (m ∷ more) (entered xs (child at n)))
-  where
-    in_table : (e : Address) → IsUnder at e → IsUnder at (entered xs e)
-    in_table e under = by (count_tables xs e == 0)
-      where
-        by : (b : Bool) → IsUnder at (cond b e (element e (count_tables xs e - 1)))
-        by true = under
-        by false = under_trans at e (element e (count_tables xs e - 1)) under (Index (count_tables xs e - 1) ∷ [], refl)
+
+-- and so does what it names
+pub first_under : (xs : List Named) (key : Key) (n : List ℕ) (at : Address) → IsUnder (child at n) (header_end xs at (n ∷ key))
+first_under xs [] n at = ([], sym (append-nil (child at n)))
+first_under xs (m ∷ key) n at =
+    under_trans (child at n) (entered xs (child at n)) (header_end xs (entered xs (child at n)) (m ∷ key))
+    (entered_under xs (child at n) (child at n) ([], sym (append-nil (child at n)))) (end_under xs (m ∷ key) (entered xs (child at n)))
 
 followed_over : (line : ℕ) (xs : List Named) (end : Address → List Named) (key : Key) (at own : Address) → IsUnder (header_end xs at key) own
     → EachIs (λ m. IsUnder m.address own) (end (header_end xs at key)) → EachIs (λ m. IsUnder m.address own) (followed line xs end at key)

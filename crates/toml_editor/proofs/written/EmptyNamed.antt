@@ -1,5 +1,5 @@
 -- What is named where the line of a value comes to stand for the table right above it.
-use Rattle.std.proofs.Common.{◌≡◌, ◌∙◌, ℕ, ◌+◌, false, List, [], ◌∷◌, ◌++◌, length, refl, sym, ap, ap₂, subst, subst₂, append_assoc, append-nil}
+use Rattle.std.proofs.Common.{◌≡◌, ◌∙◌, ℕ, ◌+◌, false, List, [], ◌∷◌, ◌++◌, length, refl, sym, ap, ap₂, subst, subst₂, append_assoc}
 use Rattle.std.specs.List.{list_any}
 use Rattle.toml_tree.specs.Spells.{EachIs}
 use Rattle.toml_tree.specs.Tree.{Piece, Blank, KeyVal, Value, Line}
@@ -22,7 +22,7 @@ use Rattle.toml_editor.proofs.written.BelowPlace.{standing_behind}
 use Rattle.toml_editor.proofs.written.Clear.{above_apart, below-cons, self}
 use Rattle.toml_editor.proofs.written.EmptiedLine.{IsEmptying, below_last, either_false, pair_line, right_above}
 use Rattle.toml_editor.proofs.written.EmptyAlone.{IsAway, NotThere, lines_away, others_away}
-use Rattle.toml_editor.proofs.written.Plain.{behind, behind_alike, plain_alike, plain_is}
+use Rattle.toml_editor.proofs.written.Plain.{behind, behind_alike, behind_parts, plain_alike, plain_is}
 use Rattle.toml_editor.proofs.written.StandingOrder.{rules_order}
 use Rattle.toml_editor.proofs.written.TablesStay.{fronts_above}
 
@@ -32,14 +32,6 @@ fronts_last s a [] n = refl
 fronts_last s a (b ∷ k) n =
     ap (λ r. table_at 0 Dotted (child s a) ∷ r)
     (fronts_last (child s a) b k n ∙ ap (λ to. fronts 0 (child s a) (b ∷ k) ++ table_at 0 Dotted to ∷ []) (below-cons s a (b ∷ k)))
-
-behind_parts : (a b : List Line) (ys : List Named) → behind ys (a ++ b) ≡ behind ys a ++ behind (ys ++ behind ys a) b
-behind_parts [] b ys = ap (λ r. behind r b) (sym (append-nil ys))
-behind_parts (l ∷ a) b ys =
-    let new = named_by ys 0 l.expr in
-    ap (λ r. new ++ r) (behind_parts a b (ys ++ new))
-    ∙ sym (append_assoc new (behind (ys ++ new) a) (behind ((ys ++ new) ++ behind (ys ++ new) a) b))
-    ∙ ap (λ r. (new ++ behind (ys ++ new) a) ++ behind r b) (append_assoc ys new (behind (ys ++ new) a))
 
 -- what lines name before a line
 abbrev pub before : List Line → List Named

@@ -23,8 +23,7 @@ use Rattle.toml_working.specs.Seeing.{heads_below, is_dotted}
 use Rattle.toml_working.specs.Standing.{Standing, holds, is_below, lies_below, standing, standing_from}
 use Rattle.toml_editor.specs.HeadingFollowed.{header_followed, header_line_behind, line_behind_family, or_header_at_end}
 use Rattle.toml_editor.proofs.written.Counted.{AreLast, last_child, same_last}
-use Rattle.toml_editor.proofs.written.CountedApart.{under_begins}
-use Rattle.toml_editor.proofs.written.ElementCounted.{apart_element, next_leads}
+use Rattle.toml_editor.proofs.written.ElementCounted.{apart_element, next_leads, under_begins}
 use Rattle.toml_editor.proofs.written.ElementHeaded.{away_unnamed, none_holds, some_named}
 use Rattle.toml_editor.proofs.written.EmptyAlone.{IsAway, not_any}
 use Rattle.toml_editor.proofs.written.FollowedPlace.{followed_put}
@@ -32,7 +31,7 @@ use Rattle.toml_editor.proofs.written.HeaderLeads.{leads}
 use Rattle.toml_editor.proofs.written.HeaderPut.{IsApart}
 use Rattle.toml_editor.proofs.written.HeaderSplit.{any_back}
 use Rattle.toml_editor.proofs.written.HeaderStood.{stand_append}
-use Rattle.toml_editor.proofs.written.HeaderThere.{IsPutThere, put_as}
+use Rattle.toml_editor.proofs.written.HeaderThere.{IsPlaced, put_as}
 use Rattle.toml_editor.proofs.written.SectionFacts.{IsNextElement, IsRoom}
 
 -- ---- addresses
@@ -96,9 +95,9 @@ line_below lines kinds facts q some outside not_root = by (list_any (is_below q)
 -- by layout `Follow` the header line goes where it may stand
 pub section_followed : (q : Address) (name style : List ℕ) (may : Bool) (lines : List Line) (kinds : Kinds) → AreLines lines → KeepsRules (named lines)
     → IsDataOf (named lines) kinds → IsRoom q name kinds → list_any (holds q) (standing lines) ≡ false
-    → IsPutThere One (child q name) style lines (header_followed q One (child q name) style may lines) (put_following q (child q name) One style may (standing lines))
+    → IsPlaced One (child q name) style lines (header_followed q One (child q name) style may lines) (put_following q (child q name) One style may (standing lines))
 section_followed q name style may lines kinds forms keeps facts room outside =
-    subst (λ f. IsPutThere One p style lines (header_at f) (put_at f)) (sym family_is)
+    subst (λ f. IsPlaced One p style lines (header_at f) (put_at f)) (sym family_is)
     (followed_put One p q q style may lines forms (λ xs last. last)
     (λ ws front back split last apart. leads lines front back q name ws kinds split keeps facts room.table last)
     (line_below lines kinds facts q (subst IsSome (sym room.table) refl) outside) (λ front back split none. tt))
@@ -120,7 +119,7 @@ section_followed q name style may lines kinds forms keeps facts room outside =
 -- by layout `Follow` the header line goes where it may stand
 pub element_followed : (q : Address) (i : ℕ) (style : List ℕ) (may : Bool) (lines : List Line) (kinds : Kinds) → AreLines lines → KeepsRules (named lines)
     → IsDataOf (named lines) kinds → IsNextElement q i kinds → list_any (holds q) (standing lines) ≡ false
-    → IsPutThere Two (element q i) style lines (header_followed q Two (element q i) style may lines) (put_following q (element q i) Two style may (standing lines))
+    → IsPlaced Two (element q i) style lines (header_followed q Two (element q i) style may lines) (put_following q (element q i) Two style may (standing lines))
 element_followed q i style may lines kinds forms keeps facts next outside = by (list_any (is_below q) (standing lines)) refl
   where
     p : Address
@@ -145,12 +144,12 @@ element_followed q i style may lines kinds forms keeps facts next outside = by (
         → own_address (named front) (header_expr Two p ws) ≡ Some p
     leads_there = next_leads q i lines kinds keeps facts next outside
 
-    put_by : (f : Address) → family q p (standing lines) ≡ f → IsPutThere Two p style lines (header_at f) (put_at f)
-        → IsPutThere Two p style lines (header_followed q Two p style may lines) (put_following q p Two style may (standing lines))
-    put_by f is = subst (λ x. IsPutThere Two p style lines (header_at x) (put_at x)) (sym is)
+    put_by : (f : Address) → family q p (standing lines) ≡ f → IsPlaced Two p style lines (header_at f) (put_at f)
+        → IsPlaced Two p style lines (header_followed q Two p style may lines) (put_following q p Two style may (standing lines))
+    put_by f is = subst (λ x. IsPlaced Two p style lines (header_at x) (put_at x)) (sym is)
 
     by : (b : Bool) → list_any (is_below q) (standing lines) ≡ b
-        → IsPutThere Two p style lines (header_followed q Two p style may lines) (put_following q p Two style may (standing lines))
+        → IsPlaced Two p style lines (header_followed q Two p style may lines) (put_following q p Two style may (standing lines))
     by true there =
         put_by q (cond-false _ _ _ (ap₂ (λ a b. a && not b) (index_is_element q i) there))
         (followed_put Two p q q style may lines forms (λ xs last. last) leads_there (λ not_root. there) (λ front back split none. apart_element q i front back none))

@@ -26,7 +26,7 @@ use Rattle.toml_editor.proofs.written.FollowedSplit.{Followed, LastThere, NotFol
 use Rattle.toml_editor.proofs.written.HeaderPut.{IsApart}
 use Rattle.toml_editor.proofs.written.HeaderSplit.{IsHeadlessShown, any_back, at_end, lines_of, stand_of}
 use Rattle.toml_editor.proofs.written.HeaderStood.{counted_behind, parts, shown_lines, shown_outlined, shown_stands}
-use Rattle.toml_editor.proofs.written.HeaderThere.{IsPutThere, apart_at_end, behind_blank, end_put, put_as, put_before, some_line}
+use Rattle.toml_editor.proofs.written.HeaderThere.{IsPlaced, apart_at_end, behind_blank, end_put, put_as, put_before, some_line}
 use Rattle.toml_editor.proofs.written.InsertStands.{has_same}
 use Rattle.toml_editor.proofs.written.TablesStay.{begins_under}
 use Rattle.toml_editor.proofs.written.UnitsRenamed.{each_form}
@@ -76,7 +76,7 @@ module _ (brackets : Brackets) (p way family : Address) (style : List ℕ) (may 
   new = λ front. header_behind p brackets front style
 
   abbrev IsPut : List Line → List Standing → Type 0
-  IsPut = IsPutThere brackets p style lines
+  IsPut = IsPlaced brackets p style lines
 
   -- the arrays of tables on the way to the last line of the family, or below it, have so many tables behind it as the family says
   reached : (before : List Shown) (line : Shown) (between back : List Shown) → shown lines ≡ before ++ line ∷ (between ++ back) → is_below family line.1 ≡ true

@@ -24,7 +24,7 @@ use Rattle.toml_editor.proofs.written.Pairwise.{Has, any_of_has, has_append_left
 
 -- ---- a name is put in a table
 
-abbrev IsKindAt : Address → Kind → Named → Type 0
+abbrev pub IsKindAt : Address → Kind → Named → Type 0
 IsKindAt at k m = (m.address ≡ at) × (m.kind ≡ k)
 
 abbrev IsAt : Address → Named → Type 0
@@ -118,7 +118,7 @@ module _ (lines : List Line) (kinds : Kinds) (keeps : KeepsRules (named lines)) 
 
   module _ (q : Address) (name : List ℕ) (table : kinds q ≡ Some a_table) where
     -- each front that a name follows is a table
-    fronts_are_tables : (r rest : Address) (n : List ℕ) → child q name ≡ r ++ Name n ∷ rest → kinds r ≡ Some a_table
+    pub fronts_are_tables : (r rest : Address) (n : List ℕ) → child q name ≡ r ++ Name n ∷ rest → kinds r ≡ Some a_table
     fronts_are_tables r rest n is = elim (last_step q r (Name name) (Name n) rest is) [
       | inl same ↦ sym (ap kinds same.0) ∙ table
       | inr more ↦ name_in_table r n (λ none. absurd (let e : None ≡ Some a_table = sym (below more.0 none) ∙ ap kinds (sym more.1) ∙ table in cc))
@@ -167,7 +167,7 @@ names_again : (names : Key) → map (λ (d : Dotted). part_name d.part) (map dot
 names_again [] = refl
 names_again (n ∷ names) = ap₂ (λ a b. a ∷ b) (spelled_again n) (names_again names)
 
-key_again : (n : List ℕ) (names : Key) → key_names (key_named (n ∷ names)) ≡ n ∷ names
+pub key_again : (n : List ℕ) (names : Key) → key_names (key_named (n ∷ names)) ≡ n ∷ names
 key_again n names = ap₂ (λ a b. a ∷ b) (spelled_again n) (names_again names)
 
 -- The key of a new section's header leads to its address, from where each index of the address is that of the last table of its array.

@@ -19,7 +19,7 @@ use Rattle.toml_editor.proofs.written.Counted.{AreLast}
 use Rattle.toml_editor.proofs.written.HeaderPut.{IsApart}
 use Rattle.toml_editor.proofs.written.HeaderSplit.{LastBelow, NextHeader, lines_of, next_header}
 use Rattle.toml_editor.proofs.written.HeaderStood.{counted_behind, index_in, parts, shown_lines, shown_stands}
-use Rattle.toml_editor.proofs.written.HeaderThere.{IsPutThere, end_put, put_as, put_before}
+use Rattle.toml_editor.proofs.written.HeaderThere.{IsPlaced, end_put, put_as, put_before}
 use Rattle.toml_editor.proofs.written.StandingOrder.{begins_is}
 
 -- ---- lines by what stands on them
@@ -83,7 +83,7 @@ module _ (brackets : Brackets) (p way : Address) (style : List ℕ) (lines : Lis
       → IsApart brackets p (lines_of it.parted.front) (lines_of (it.parted.head ∷ it.parted.rest))) where
     -- before the next header line behind those of the element
     next_put : (e : Address) → innermost way ≡ Some e → (it : NextHeader (h style) (new style) e (shown lines))
-        → IsPutThere brackets p style lines (or_line_at_end h style lines (line_before_next e (h style) (shown lines)))
+        → IsPlaced brackets p style lines (or_line_at_end h style lines (line_before_next e (h style) (shown lines)))
         (or_last new style (standing lines) (before_next e (new style) (standing lines)))
     next_put e inner it =
         let parted = it.parted in
@@ -98,14 +98,14 @@ module _ (brackets : Brackets) (p way : Address) (style : List ℕ) (lines : Lis
         (ap (or_line_at_end h style lines) parted.lines)
         (ap (or_last new style (standing lines)) (ap (before_next e (new style)) (sym (shown_stands lines (root ∷ []) 0)) ∙ parted.stands))
 
-    pub header_put : IsPutThere brackets p style lines (header_lines way brackets p style lines) (put_plainly (innermost way) new style (standing lines))
+    pub header_put : IsPlaced brackets p style lines (header_lines way brackets p style lines) (put_plainly (innermost way) new style (standing lines))
     header_put = by (innermost way) refl
       where
-        end : IsReached lines → IsPutThere brackets p style lines (line_at_end h style lines) (put_at_text_end new style (standing lines))
+        end : IsReached lines → IsPlaced brackets p style lines (line_at_end h style lines) (put_at_text_end new style (standing lines))
         end = end_put brackets p style lines [] (λ are. tt) way forms leads
 
         by : (o : Option Address) → innermost way ≡ o
-            → IsPutThere brackets p style lines (header_lines way brackets p style lines) (put_plainly (innermost way) new style (standing lines))
+            → IsPlaced brackets p style lines (header_lines way brackets p style lines) (put_plainly (innermost way) new style (standing lines))
         by None inner =
             put_as brackets p style lines _ _ _ _ (ap (λ o. line_put_plainly o h style lines) inner) (ap (λ o. put_plainly o new style (standing lines)) inner)
             (end (λ r rest i is. let (e, some', more, split) = index_in r rest i in

@@ -1,5 +1,5 @@
 -- The lines with a new header line: where it stands, and what then stands on the lines.
-use Rattle.std.proofs.Common.{◌≡◌, inl, ℕ, ◌+◌, Bool, true, false, cond, ◌&&◌, Option, Some, None, List, [], ◌∷◌, ◌++◌, map, length, length-append, refl, sym, ap, ap₂, ◌∙◌, subst, true≢false, append-nil, append_assoc, arith}
+use Rattle.std.proofs.Common.{◌≡◌, inr, ℕ, ◌+◌, Bool, true, false, cond, ◌&&◌, Option, Some, None, List, [], ◌∷◌, ◌++◌, map, length, length-append, refl, sym, ap, ap₂, ◌∙◌, subst, true≢false, append-nil, append_assoc, arith}
 use Rattle.std.proofs.lemmas.List.{map-append}
 use Rattle.std.proofs.lemmas.Option.{same_Some}
 use Rattle.toml_scalar.specs.Spelling.{spelled}
@@ -31,11 +31,10 @@ use Rattle.toml_working.specs.Removing.{no_blank}
 use Rattle.toml_working.specs.Placing.{is_header}
 use Rattle.toml_working.specs.Standing.{Standing, line_stands, is_below, standing, standing_from}
 use Rattle.toml_editor.proofs.written.Clear.{differ}
-use Rattle.toml_editor.proofs.written.Counted.{count_array, count_table, counts_stay, one_if, own_counts}
-use Rattle.toml_editor.proofs.written.CountedAlike.{stand_counted}
-use Rattle.toml_editor.proofs.written.CountedApart.{stand_apart}
+use Rattle.toml_editor.proofs.written.Counted.{counts_stay, own_counts}
+use Rattle.toml_editor.proofs.written.CountedAlike.{stand_same, standing_same}
 use Rattle.toml_editor.proofs.written.DocumentSections.{named_next}
-use Rattle.toml_editor.proofs.written.EmptyAlone.{not_any}
+use Rattle.toml_editor.proofs.written.HeaderCounted.{back_apart, header_counted}
 use Rattle.toml_editor.proofs.written.HeaderPut.{IsApart}
 use Rattle.toml_editor.proofs.written.HeaderSplit.{IsHeadlessShown, IsOutlined, lines_of, stand_of}
 use Rattle.toml_editor.proofs.written.InsertPlace.{IsHeadless}
@@ -154,41 +153,22 @@ pub header_outlined : (brackets : Brackets) (p : Address) (ws newline : List ℕ
 header_outlined One p ws newline = outlined One ws newline (names_of p)
 header_outlined Two p ws newline = outlined Two ws newline (names_of p)
 
--- A header of a table makes no array longer, one of an element its array, at which and below which no line behind stands. So these stand alike.
+-- behind it lines stand as without it
 others_stand : (brackets : Brackets) (p : Address) (front back : List Line) (ws : List ℕ) → own_address (named front) (header_expr brackets p ws) ≡ Some p
     → IsApart brackets p front back → has_pair back ≡ false
-    → standing_from (named front ++ named_by (named front) (length front) (header_expr brackets p ws)) (length front + 1) back ≡ standing_from (named front) (length front) back
-others_stand One p front back ws leads apart unkeyed =
-    stand_counted back (named front ++ named_by (named front) (length front) (header_expr One p ws)) (named front) (length front + 1) (length front) same unkeyed
-  where
-    same : (x : Address) → count_tables (named front ++ named_by (named front) (length front) (header_expr One p ws)) x ≡ count_tables (named front) x
-    same x =
-        let all = count-append (named front) (named_by (named front) (length front) (header_expr One p ws)) x in
-        let key = key_named (names_of p) in
-        let none = count_table (named front) (length front) x (part_name key.first) (rest_names key.rest) in
-        omega (arith, all, none)
-others_stand Two p front back ws leads apart unkeyed =
-    sym (stand_apart at back xs (xs ++ named_by xs (length front) (header_expr Two p ws)) (length front) (length front + 1) same (inl unkeyed)
-    (not_any (is_below at) (standing_from xs (length front) back) (apart at (count_tables xs at) (sym (same_Some _ p leads)))))
-  where
-    xs : List Named
-    xs = named front
+    → standing_from (named front ++ named_by (named front) (length front) (header_expr brackets p ws)) (length front + 1) back
+    ≡ standing_from (named front) (length front) back
+others_stand brackets p front back ws leads apart unkeyed =
+    let xs = named front in
+    let ys = xs ++ named_by xs (length front) (header_expr brackets p ws) in
+    sym (standing_same back xs ys (length front) (length front + 1) (stand_same back xs ys (length front) (length front + 1) (inr unkeyed)
+    (header_counted brackets p ws xs (length front) (standing_from xs (length front) back) leads (back_apart brackets p front back apart))))
 
-    at : Address
-    at = header_end xs [] (key_names (key_named (names_of p)))
-
-    same : (x : Address) → ¬ (x ≡ at) → count_tables xs x ≡ count_tables (xs ++ named_by xs (length front) (header_expr Two p ws)) x
-    same x other =
-        let all = count-append xs (named_by xs (length front) (header_expr Two p ws)) x in
-        let key = key_named (names_of p) in
-        let none = count_array xs (length front) x (part_name key.first) (rest_names key.rest) ∙ ap one_if (differ at x (λ is. other (sym is))) in
-        omega (arith, all, none)
-
-base_none : (brackets : Brackets) (p : Address) (ws newline : List ℕ) (xs : List Named) → own_address xs (header_expr brackets p ws) ≡ Some p
+header_stood : (brackets : Brackets) (p : Address) (ws newline : List ℕ) (xs : List Named) → own_address xs (header_expr brackets p ws) ≡ Some p
     → line_stands xs (header_line brackets p ws newline) ≡ new_header p brackets ws newline
-base_none One p ws newline xs leads =
+header_stood One p ws newline xs leads =
     ap₂ (λ (a : Option Address) (o : LineOutline). record { address = a; base = None; outline = o }) leads (header_outlined One p ws newline)
-base_none Two p ws newline xs leads =
+header_stood Two p ws newline xs leads =
     ap₂ (λ (a : Option Address) (o : LineOutline). record { address = a; base = None; outline = o }) leads (header_outlined Two p ws newline)
 
 -- where its key leads to the address, and no key follows before the next header, it stands there, and the others stay
@@ -197,7 +177,7 @@ pub header_stands : (brackets : Brackets) (p : Address) (front back : List Line)
     → standing_from (named front) (length front) (header_line brackets p ws newline ∷ back)
     ≡ new_header p brackets ws newline ∷ standing_from (named front) (length front) back
 header_stands brackets p front back ws newline leads apart unkeyed =
-    ap₂ (λ s t. s ∷ t) (base_none brackets p ws newline (named front) leads) (others_stand brackets p front back ws leads apart unkeyed)
+    ap₂ (λ s t. s ∷ t) (header_stood brackets p ws newline (named front) leads) (others_stand brackets p front back ws leads apart unkeyed)
 
 pub put_stands : (brackets : Brackets) (p : Address) (front back : List Line) (ws newline : List ℕ) → own_address (named front) (header_expr brackets p ws) ≡ Some p
     → IsApart brackets p front back → has_pair back ≡ false

@@ -125,12 +125,12 @@ apart_before_empty Two p front l is = λ q i at. ap (λ s. list_any (is_below q)
 
 module _ (brackets : Brackets) (p : Address) (style : List ℕ) (lines : List Line) where
   -- the lines with it, and what stands on them
-  pub record IsPutThere (put : List Line) (stand : List Standing) : Type 0 where
+  pub record IsPlaced (put : List Line) (stand : List Standing) : Type 0 where
     pub header : IsHeaderPut brackets p style lines put
     pub stands : standing put ≡ stand
 
-  pub put_as : (put put' : List Line) (stand stand' : List Standing) → put' ≡ put → stand' ≡ stand → IsPutThere put stand → IsPutThere put' stand'
-  put_as put put' stand stand' e f it = subst (λ x. IsPutThere x stand') (sym e) (subst (IsPutThere put) (sym f) it)
+  pub put_as : (put put' : List Line) (stand stand' : List Standing) → put' ≡ put → stand' ≡ stand → IsPlaced put stand → IsPlaced put' stand'
+  put_as put put' stand stand' e f it = subst (λ x. IsPlaced x stand') (sym e) (subst (IsPlaced put) (sym f) it)
 
   pub some_line : AreLines lines → ¬ (shown lines ≡ [])
   some_line forms none = no_lines lines forms (sym (shown_lines lines (root ∷ []) 0) ∙ ap lines_of none)
@@ -153,7 +153,7 @@ module _ (brackets : Brackets) (p : Address) (style : List ℕ) (lines : List Li
     -- before one of the lines, where no key comes before the next header
     pub put_before : (front back : List Shown) → shown lines ≡ front ++ back → ¬ (lines_of back ≡ []) → has_pair (lines_of back) ≡ false
         → IsApart brackets p (lines_of front) (lines_of back) → Leads (lines_of front) → (put : List Line) (stand : List Standing)
-        → put ≡ lines_of front ++ h style ∷ lines_of back → stand ≡ stand_of front ++ new style ∷ stand_of back → IsPutThere put stand
+        → put ≡ lines_of front ++ h style ∷ lines_of back → stand ≡ stand_of front ++ new style ∷ stand_of back → IsPlaced put stand
     put_before front back was some unkeyed apart leads put stand is stands =
         let are = parts front back lines [] was in
         record {
@@ -174,7 +174,7 @@ module _ (brackets : Brackets) (p : Address) (style : List ℕ) (lines : List Li
 
     -- before a last line without bytes
     before_empty : (it : BeforeEmpty h new style (shown lines)) → Leads (lines_of it.front)
-        → IsPutThere (line_at_end h style lines) (put_at_text_end new style (standing lines))
+        → IsPlaced (line_at_end h style lines) (put_at_text_end new style (standing lines))
     before_empty it leads =
         put_before it.front (it.last ∷ []) it.was (λ none. cc) (no_bytes it.last.0 it.empty).1
         (apart_before_empty brackets p (lines_of it.front) it.last.0 it.empty) leads _ _
@@ -183,7 +183,7 @@ module _ (brackets : Brackets) (p : Address) (style : List ℕ) (lines : List Li
 
     -- behind the last line
     behind_last : AreLines lines → (it : BehindLast h new style (shown lines)) → Leads (lines_of it.front ++ it.last.0 ∷ [])
-        → IsPutThere (line_at_end h style lines) (put_at_text_end new style (standing lines))
+        → IsPlaced (line_at_end h style lines) (put_at_text_end new style (standing lines))
     behind_last forms it leads =
         let before = lines_of it.front in
         let last = it.last.0 in
@@ -219,7 +219,7 @@ module _ (brackets : Brackets) (p : Address) (style : List ℕ) (lines : List Li
 
     -- behind the last line, which has no bytes and becomes a blank one
     pub behind_blank : (front : List Shown) (last : Shown) → shown lines ≡ front ++ last ∷ [] → has_no_bytes (line_outline last.0) ≡ true → Leads lines
-        → IsPutThere (line_at_end h style (blank_at_end style lines)) (put_at_text_end new style (put_at_text_end blank_line style (standing lines)))
+        → IsPlaced (line_at_end h style (blank_at_end style lines)) (put_at_text_end new style (put_at_text_end blank_line style (standing lines)))
     behind_blank front (last, s) was empty leads =
         let before = lines_of front in
         let are = parts front ((last, s) ∷ []) lines [] was in
@@ -261,7 +261,7 @@ module _ (brackets : Brackets) (p : Address) (style : List ℕ) (lines : List Li
     -- at the end, where it leads to the address, if each index on the way is that of the last table of its array
     pub end_put : (way : Address) → AreLines lines
         → ((front back : List Line) → lines ≡ front ++ back → AreLast (named front) way → IsApart brackets p front back → Leads front) → AreLast (named lines) way
-        → IsPutThere (line_at_end h style lines) (put_at_text_end new style (standing lines))
+        → IsPlaced (line_at_end h style lines) (put_at_text_end new style (standing lines))
     end_put way forms leads last = elim (at_end h new style (shown lines) (shown_outlined lines (root ∷ []) 0) (some_line forms)) [
       | inl it ↦
           let front = lines_of it.front in

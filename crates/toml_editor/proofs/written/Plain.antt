@@ -1,5 +1,5 @@
 -- What is named, the numbers of lines aside.
-use Rattle.std.proofs.Common.{◌≡◌, ℕ, ◌+◌, List, [], ◌∷◌, ◌++◌, map, refl, sym, ap, ap₂, ◌∙◌, arith}
+use Rattle.std.proofs.Common.{◌≡◌, ℕ, ◌+◌, List, [], ◌∷◌, ◌++◌, map, refl, sym, ap, ap₂, ◌∙◌, append_assoc, append-nil, arith}
 use Rattle.std.proofs.lemmas.List.{map-append}
 use Rattle.std.specs.Prelude.{if◌then◌else◌}
 use Rattle.toml_tree.specs.Bare.{fresh}
@@ -62,6 +62,19 @@ plain_from (l ∷ ls) ms n =
 
 pub plain_is : (lines : List Line) → named_plain lines ≡ root ∷ behind (root ∷ []) lines
 plain_is lines = plain_from lines (root ∷ []) 0
+
+-- what lines name, and lines behind them
+pub behind_parts : (a b : List Line) (ys : List Named) → behind ys (a ++ b) ≡ behind ys a ++ behind (ys ++ behind ys a) b
+behind_parts [] b ys = ap (λ r. behind r b) (sym (append-nil ys))
+behind_parts (l ∷ a) b ys =
+    let new = named_by ys 0 l.expr in
+    ap (λ r. new ++ r) (behind_parts a b (ys ++ new))
+    ∙ sym (append_assoc new (behind (ys ++ new) a) (behind ((ys ++ new) ++ behind (ys ++ new) a) b))
+    ∙ ap (λ r. (new ++ behind (ys ++ new) a) ++ behind r b) (append_assoc ys new (behind (ys ++ new) a))
+
+pub plain_parts : (a b : List Line) → named_plain (a ++ b) ≡ named_plain a ++ behind (named_plain a) b
+plain_parts a b =
+    plain_is (a ++ b) ∙ ap (λ r. root ∷ r) (behind_parts a b (root ∷ [])) ∙ ap (λ r. r ++ behind r b) (sym (plain_is a))
 
 -- one line more behind alike lists, in one of them as of line 0
 pub next_alike : (xs ys : List Named) (n : ℕ) (e : Expr) → AreAlike xs ys → AreAlike (xs ++ named_by xs n e) (ys ++ named_by ys 0 e)

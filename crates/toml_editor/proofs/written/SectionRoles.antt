@@ -1,12 +1,13 @@
--- What roles say of what lines name: where values stand, that arrays of tables are arrays, and that elements come in turn.
+-- What roles say of what lines name: where values stand, what is a table and what an array, and that elements come in turn.
 use Rattle.std.proofs.Common.{◌≡◌, ◌≤◌, ℕ, ◌+◌, false, List, [], ◌∷◌, ◌++◌, refl, sym, ap, ◌∙◌, subst, true≢false, append_assoc, arith}
 use Rattle.std.specs.List.{list_any}
 use Rattle.std.proofs.lemmas.Bool.{or_parts}
 use Rattle.toml_tree.specs.Spells.{EachIs}
 use Rattle.toml_tree.specs.Tree.{Assign, Value, Scalar, Array, Inline, Items, Close, Last, More, Pairs, ClosePairs, LastPair, MorePairs, Expr, BlankLine, KeyValLine, TableLine, ArrayTableLine, Line}
-use Rattle.toml_names.specs.declared.mentions.mention.Role.TheVariants.{Passed, Valued, Tables, Element}
+use Rattle.toml_names.specs.declared.mentions.mention.Role.{Role}
+use Rattle.toml_names.specs.declared.mentions.mention.Role.TheVariants.{Passed, Header, Dotted, Valued, Tables, Element, Bare}
 use Rattle.toml_names.specs.mentions.Keys.{Key, key_names}
-use Rattle.toml_names.specs.mentions.Mentions.{Named, an_array, named, named_by, named_from, root, table_at, fronts, inside, elements, members, pair_named, value_named, entered, followed, ends_table, ends_tables, section, count_tables, is_tables, is_section}
+use Rattle.toml_names.specs.mentions.Mentions.{Kind, Named, a_table, an_array, named, named_by, named_from, root, table_at, fronts, inside, elements, members, pair_named, value_named, entered, followed, ends_table, ends_tables, section, count_tables, is_tables, is_section}
 use Rattle.toml_names.specs.model.Addresses.{Address, IsAbove, child, element, below}
 use Rattle.toml_names.proofs.Proved.{count-append, inside_is_below}
 use Rattle.toml_layout.specs.Beginnings.{begins}
@@ -24,17 +25,31 @@ followed_each P n xs e passed ends [] at = tt
 followed_each P n xs e passed ends (k ∷ []) at = ends (child at k)
 followed_each P n xs e passed ends (k ∷ l ∷ more) at = (passed (entered xs (child at k)), followed_each P n xs e passed ends (l ∷ more) (entered xs (child at k)))
 
+-- what stands where something is named in the role, but for values and elements in values
+abbrev pub RoleHas : Role → Kind → Type 0
+RoleHas Valued k = Unit {0}
+RoleHas Bare k = Unit {0}
+RoleHas Tables k = k ≡ an_array
+RoleHas Passed k = k ≡ a_table
+RoleHas Header k = k ≡ a_table
+RoleHas Dotted k = k ≡ a_table
+RoleHas Element k = k ≡ a_table
+
+abbrev pub HasKind : Named → Type 0
+HasKind m = RoleHas m.role m.kind
+
 -- neither an array of tables nor named by a header
 abbrev IsPart : Named → Type 0
-IsPart m = (is_tables m.role ≡ false) × (is_section m.role ≡ false)
+IsPart m = (is_tables m.role ≡ false) × (is_section m.role ≡ false) × HasKind m
 
 fronts_parts : (n : ℕ) (key : Key) (at : Address) → EachIs IsPart (fronts n at key)
 fronts_parts n [] at = tt
 fronts_parts n (k ∷ []) at = tt
-fronts_parts n (k ∷ l ∷ more) at = ((refl, refl), fronts_parts n (l ∷ more) (child at k))
+fronts_parts n (k ∷ l ∷ more) at = ((refl, refl, refl), fronts_parts n (l ∷ more) (child at k))
 
 pair_by : (n : ℕ) (a : Assign) (v : Value) (at : Address) → ((to : Address) → EachIs IsPart (inside n to v)) → EachIs IsPart (pair_named n at a v)
-pair_by n a v at within = each_append IsPart (fronts n at (key_names a.key)) _ (fronts_parts n (key_names a.key) at) ((refl, refl), within (below at (key_names a.key)))
+pair_by n a v at within =
+    each_append IsPart (fronts n at (key_names a.key)) _ (fronts_parts n (key_names a.key) at) ((refl, refl, tt), within (below at (key_names a.key)))
 
 mutual
   inside_parts : (n : ℕ) (v : Value) (at : Address) → EachIs IsPart (inside n at v)
@@ -44,9 +59,9 @@ mutual
 
   elements_parts : (n : ℕ) (items : Items) (at : Address) (i : ℕ) → EachIs IsPart (elements n at i items)
   elements_parts n (Close g) at i = tt
-  elements_parts n (Last g v h) at i = ((refl, refl), inside_parts n v (element at i))
+  elements_parts n (Last g v h) at i = ((refl, refl, tt), inside_parts n v (element at i))
   elements_parts n (More g v h is) at i =
-      ((refl, refl), each_append IsPart (inside n (element at i) v) _ (inside_parts n v (element at i)) (elements_parts n is at (i + 1)))
+      ((refl, refl, tt), each_append IsPart (inside n (element at i) v) _ (inside_parts n v (element at i)) (elements_parts n is at (i + 1)))
 
   members_parts : (n : ℕ) (pairs : Pairs) (at : Address) → EachIs IsPart (members n at pairs)
   members_parts n (ClosePairs g) at = tt
@@ -56,28 +71,22 @@ mutual
 pair_parts : (n : ℕ) (a : Assign) (v : Value) (at : Address) → EachIs IsPart (pair_named n at a v)
 pair_parts n a v at = pair_by n a v at (inside_parts n v)
 
--- ---- arrays of tables
+-- ---- kinds
 
-abbrev pub IsArray : Named → Type 0
-IsArray m = m.role ≡ Tables → m.kind ≡ an_array
+line_kinds : (xs : List Named) (n : ℕ) (e : Expr) → EachIs HasKind (named_by xs n e)
+line_kinds xs n (BlankLine b) = tt
+line_kinds xs n (KeyValLine ws pair tail) =
+    each_weaker IsPart HasKind (λ m part. part.2) (pair_named n (section xs) pair.assign pair.value) (pair_parts n pair.assign pair.value (section xs))
+line_kinds xs n (TableLine ws h tail) = followed_each HasKind n xs (ends_table n) (λ a. refl) (λ to. (refl, tt)) (key_names h.key) []
+line_kinds xs n (ArrayTableLine ws h tail) = followed_each HasKind n xs (ends_tables n xs) (λ a. refl) (λ to. (refl, (refl, tt))) (key_names h.key) []
 
-part_array : (m : Named) → IsPart m → IsArray m
-part_array m part is = absurd (true≢false (ap is_tables (sym is) ∙ part.0))
+kinds_from : (ls : List Line) (xs : List Named) (n : ℕ) → EachIs HasKind xs → EachIs HasKind (named_from xs n ls)
+kinds_from [] xs n are = are
+kinds_from (l ∷ ls) xs n are = kinds_from ls (xs ++ named_by xs n l.expr) (n + 1) (each_append HasKind xs (named_by xs n l.expr) are (line_kinds xs n l.expr))
 
-line_arrays : (xs : List Named) (n : ℕ) (e : Expr) → EachIs IsArray (named_by xs n e)
-line_arrays xs n (BlankLine b) = tt
-line_arrays xs n (KeyValLine ws pair tail) =
-    each_weaker IsPart IsArray part_array (pair_named n (section xs) pair.assign pair.value) (pair_parts n pair.assign pair.value (section xs))
-line_arrays xs n (TableLine ws h tail) = followed_each IsArray n xs (ends_table n) (λ a is. cc) (λ to. ((λ is. cc), tt)) (key_names h.key) []
-line_arrays xs n (ArrayTableLine ws h tail) = followed_each IsArray n xs (ends_tables n xs) (λ a is. cc) (λ to. ((λ is. refl), ((λ is. cc), tt))) (key_names h.key) []
-
-arrays_from : (ls : List Line) (xs : List Named) (n : ℕ) → EachIs IsArray xs → EachIs IsArray (named_from xs n ls)
-arrays_from [] xs n are = are
-arrays_from (l ∷ ls) xs n are = arrays_from ls (xs ++ named_by xs n l.expr) (n + 1) (each_append IsArray xs (named_by xs n l.expr) are (line_arrays xs n l.expr))
-
--- an array of tables is an array
-pub arrays_are : (lines : List Line) → EachIs IsArray (named lines)
-arrays_are lines = arrays_from lines (root ∷ []) 0 ((λ is. cc), tt)
+-- An array of tables is an array; what a header names, or passes, or a dotted key passes, is a table.
+pub kinds_are : (lines : List Line) → EachIs HasKind (named lines)
+kinds_are lines = kinds_from lines (root ∷ []) 0 (tt, tt)
 
 -- ---- elements
 
