@@ -1,7 +1,6 @@
 -- Where layout `Plain` puts the header line of a new element: it may stand there, and no line behind stands at its array or below it.
-use Rattle.std.proofs.Common.{◌≡◌, ◌⊎◌, inl, inr, ℕ, ◌+◌, Bool, true, false, ◌||◌, Option, Some, None, List, [], ◌∷◌, ◌++◌, length, length-append, refl, sym, ap, ap₂, ◌∙◌, subst, true≢false, append-nil, append_assoc}
+use Rattle.std.proofs.Common.{◌≡◌, ◌⊎◌, inl, inr, ℕ, Bool, true, false, ◌||◌, Option, Some, None, List, [], ◌∷◌, ◌++◌, length, length-append, refl, sym, ap, ap₂, ◌∙◌, subst, true≢false, append-nil, append_assoc}
 use Rattle.std.specs.List.{list_any}
-use Rattle.std.proofs.lemmas.Option.{same_Some}
 use Rattle.toml_tree.specs.Spells.{AreLines, EachIs}
 use Rattle.toml_tree.specs.Tree.{Expr, BlankLine, KeyValLine, TableLine, ArrayTableLine, Line}
 use Rattle.toml_names.specs.declared.model.address.Step.TheVariants.{Index, Name}
@@ -104,14 +103,16 @@ module _ (e array : Address) (i : ℕ) (e_is : e ≡ element array i) (rest : Ad
 -- by layout `Plain` the header line goes where it may stand
 pub element_goes : (q : Address) (i : ℕ) (style : List ℕ) (lines : List Line) (kinds : Kinds) → AreLines lines → KeepsRules (named lines) → IsDataOf (named lines) kinds
     → IsNextElement q i kinds → list_any (holds q) (standing lines) ≡ false
-    → IsPlaced Two (element q i) style lines (header_lines q Two (element q i) style lines) (put_plainly (innermost q) (new_header (element q i) Two []) style (standing lines))
+    → IsPlaced Two (element q i) style lines (header_lines q Two (element q i) style lines)
+    (put_plainly (innermost q) (new_header (element q i) Two []) style (standing lines))
 element_goes q i style lines kinds forms keeps facts next outside =
     header_put Two (element q i) q style lines forms (next_leads q i lines kinds keeps facts next outside []) headed apart
   where
     headed : (e : Address) → innermost q ≡ Some e → has_below e (standing lines) ≡ true
     headed e inner =
         let (r, n, q_is, table) = next.table in
-        element_headed lines r kinds keeps facts table (none_holds r (Name n ∷ []) (standing lines) (subst (λ x. list_any (holds x) (standing lines) ≡ false) q_is outside)) e
+        element_headed lines r kinds keeps facts table
+        (none_holds r (Name n ∷ []) (standing lines) (subst (λ x. list_any (holds x) (standing lines) ≡ false) q_is outside)) e
         (sym (inner_child r n) ∙ ap innermost (sym q_is) ∙ inner)
 
     apart : (e : Address) → innermost q ≡ Some e → (it : NextHeader (header_line Two (element q i) [] style) (new_header (element q i) Two [] style) e (shown lines))

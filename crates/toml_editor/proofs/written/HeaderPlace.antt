@@ -1,11 +1,10 @@
 -- Where layout `Plain` puts a new header line: it may stand there, and what then stands on the lines is what is put there.
-use Rattle.std.proofs.Common.{◌≡◌, ◌⊎◌, inl, inr, ℕ, Bool, true, false, Option, Some, None, List, [], ◌∷◌, ◌++◌, map, refl, sym, ap, ◌∙◌, subst, true≢false, append-nil, append_assoc}
-use Rattle.std.proofs.lemmas.List.{map-append}
+use Rattle.std.proofs.Common.{◌≡◌, inl, inr, ℕ, true, false, Option, Some, None, List, [], ◌∷◌, ◌++◌, refl, sym, ap, ◌∙◌, subst, true≢false, append-nil, append_assoc}
 use Rattle.toml_tree.specs.Spells.{AreLines}
 use Rattle.toml_tree.specs.Tree.{Expr, BlankLine, KeyValLine, TableLine, ArrayTableLine, Line}
 use Rattle.toml_names.specs.declared.model.address.Step.TheVariants.{Index}
 use Rattle.toml_names.specs.mentions.Mentions.{Named, count_tables, named, root}
-use Rattle.toml_names.specs.model.Addresses.{Address, IsAbove}
+use Rattle.toml_names.specs.model.Addresses.{Address}
 use Rattle.toml_names.specs.reader.Names.{own_address}
 use Rattle.toml_units.specs.Units.{line_base}
 use Rattle.toml_layout.specs.declared.tree.Brackets.{Brackets}
@@ -14,13 +13,13 @@ use Rattle.toml_working.specs.Headers.{before_next, has_below, innermost, new_he
 use Rattle.toml_working.specs.Inserting.{has_pair}
 use Rattle.toml_working.specs.Placing.{is_header}
 use Rattle.toml_working.specs.Seeing.{heads_below}
-use Rattle.toml_working.specs.Standing.{Standing, line_stands, standing}
+use Rattle.toml_working.specs.Standing.{Standing, lies_below, line_stands, standing}
 use Rattle.toml_editor.proofs.written.Counted.{AreLast}
 use Rattle.toml_editor.proofs.written.HeaderPut.{IsApart}
 use Rattle.toml_editor.proofs.written.HeaderSplit.{LastBelow, NextHeader, lines_of, next_header}
 use Rattle.toml_editor.proofs.written.HeaderStood.{counted_behind, index_in, parts, shown_lines, shown_stands}
 use Rattle.toml_editor.proofs.written.HeaderThere.{IsPlaced, end_put, put_as, put_before}
-use Rattle.toml_editor.proofs.written.StandingOrder.{begins_is}
+use Rattle.toml_editor.proofs.written.TablesStay.{begins_under}
 
 -- ---- lines by what stands on them
 
@@ -35,20 +34,15 @@ header_unkeyed xs l ls is = by l.expr is
     by (TableLine ws header tail) h = refl
     by (ArrayTableLine ws header tail) h = refl
 
--- the address of a header line at the other or below it
-begins_at : (e a : Address) → (a ≡ e) ⊎ IsAbove e a → (rest : Address) × (a ≡ e ++ rest)
-begins_at e a (inl is) = ([], is ∙ sym (append-nil e))
-begins_at e a (inr (s, rest, is)) = (s ∷ rest, is)
+-- the address of a line at the other or below it, and of a header line there
+pub lies_is : (e : Address) (own : Option Address) → lies_below e own ≡ true → (a : Address) × (own ≡ Some a) × (rest : Address) × (a ≡ e ++ rest)
+lies_is e None is = absurd (true≢false (sym is))
+lies_is e (Some a) is = let (rest, at) = begins_under e e a is in (a, refl, rest, at)
 
-pub below_is : (e : Address) (base : Option ℕ) (own : Option Address) → heads_below e base own ≡ true → (a : Address) × (own ≡ Some a) × (rest : Address) × (a ≡ e ++ rest)
+pub below_is : (e : Address) (base : Option ℕ) (own : Option Address) → heads_below e base own ≡ true
+    → (a : Address) × (own ≡ Some a) × (rest : Address) × (a ≡ e ++ rest)
 below_is e (Some n) own is = absurd (true≢false (sym is))
-below_is e None None is = absurd (true≢false (sym is))
-below_is e None (Some a) is =
-    let (rest, at) = begins_at e a (elim (begins_is e a is) [
-      | inl same ↦ inl (sym same)
-      | inr above ↦ inr above
-    ]) in
-    (a, refl, rest, at)
+below_is e None own is = lies_is e own is
 
 module _ (brackets : Brackets) (p way : Address) (style : List ℕ) (lines : List Line) where
   abbrev h : List ℕ → Line
@@ -77,7 +71,8 @@ module _ (brackets : Brackets) (p way : Address) (style : List ℕ) (lines : Lis
   -- its key leads to the address from where the arrays of tables on the way are so reached; one of the element is at the innermost one or below
   -- it; and for an element it is apart from the lines behind
   module _ (forms : AreLines lines)
-      (leads : (front back : List Line) → lines ≡ front ++ back → IsReached front → IsApart brackets p front back → own_address (named front) (header_expr brackets p []) ≡ Some p)
+      (leads : (front back : List Line) → lines ≡ front ++ back → IsReached front → IsApart brackets p front back
+      → own_address (named front) (header_expr brackets p []) ≡ Some p)
       (headed : (e : Address) → innermost way ≡ Some e → has_below e (standing lines) ≡ true)
       (apart : (e : Address) → innermost way ≡ Some e → (it : NextHeader (h style) (new style) e (shown lines))
       → IsApart brackets p (lines_of it.parted.front) (lines_of (it.parted.head ∷ it.parted.rest))) where
@@ -117,6 +112,7 @@ module _ (brackets : Brackets) (p way : Address) (style : List ℕ) (lines : Lis
                   put_as brackets p style lines _ _ _ _ (ap (or_line_at_end h style lines) none.put)
                   (ap (or_last new style (standing lines)) (ap (before_next e (new style)) (sym (shown_stands lines (root ∷ []) 0)) ∙ none.stand))
                   (end (subst IsReached (shown_lines lines (root ∷ []) 0)
-                  (reached_behind e inner (shown lines) [] (sym (append-nil (shown lines))) (none.last (ap (has_below e) (shown_stands lines (root ∷ []) 0) ∙ headed e inner)))))
+                  (reached_behind e inner (shown lines) [] (sym (append-nil (shown lines)))
+                  (none.last (ap (has_below e) (shown_stands lines (root ∷ []) 0) ∙ headed e inner)))))
               | inr it ↦ next_put e inner it
             ])

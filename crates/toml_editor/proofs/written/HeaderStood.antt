@@ -1,18 +1,14 @@
 -- The lines with a new header line: where it stands, and what then stands on the lines.
-use Rattle.std.proofs.Common.{◌≡◌, inr, ℕ, ◌+◌, Bool, true, false, cond, ◌&&◌, Option, Some, None, List, [], ◌∷◌, ◌++◌, map, length, length-append, refl, sym, ap, ap₂, ◌∙◌, subst, true≢false, append-nil, append_assoc, arith}
+use Rattle.std.proofs.Common.{◌≡◌, inr, ℕ, ◌+◌, false, Option, Some, None, List, [], ◌∷◌, ◌++◌, map, length, length-append, refl, sym, ap, ap₂, ◌∙◌, subst, true≢false, append-nil, append_assoc}
 use Rattle.std.proofs.lemmas.List.{map-append}
-use Rattle.std.proofs.lemmas.Option.{same_Some}
 use Rattle.toml_scalar.specs.Spelling.{spelled}
 use Rattle.toml_tree.specs.Bare.{fresh}
-use Rattle.toml_tree.specs.Spells.{AreLines, EachIs}
+use Rattle.toml_tree.specs.Spells.{EachIs}
 use Rattle.toml_tree.specs.Tree.{Expr, BlankLine, KeyValLine, TableLine, ArrayTableLine, Line}
-use Rattle.toml_names.specs.declared.model.address.Step.{Step}
-use Rattle.toml_names.specs.declared.model.address.Step.TheVariants.{Index, Name}
-use Rattle.toml_names.specs.mentions.Keys.{key_names, part_name, rest_names}
-use Rattle.toml_names.specs.mentions.Mentions.{Named, count_tables, named, named_by, root}
+use Rattle.toml_names.specs.declared.model.address.Step.TheVariants.{Index}
+use Rattle.toml_names.specs.mentions.Mentions.{Named, count_tables, named, named_by}
 use Rattle.toml_names.specs.model.Addresses.{Address}
-use Rattle.toml_names.specs.reader.Names.{header_end, own_address}
-use Rattle.toml_names.proofs.Proved.{count-append}
+use Rattle.toml_names.specs.reader.Names.{own_address}
 use Rattle.toml_units.specs.Units.{line_base}
 use Rattle.toml_layout.specs.NewKeys.{bare_part}
 use Rattle.toml_layout.specs.Outlines as outline
@@ -26,11 +22,9 @@ use Rattle.toml_working.specs.Heading.{Shown, dotted_name, header_expr, header_l
 use Rattle.toml_working.specs.Headers.{has_below, has_no_bytes, header_outline, inner_of, innermost, names_of, new_header, put_plainly}
 use Rattle.toml_working.specs.Headers as headers
 use Rattle.toml_working.specs.Inserting.{has_pair}
-use Rattle.toml_working.specs.InsertStanding.{end_in}
 use Rattle.toml_working.specs.Removing.{no_blank}
 use Rattle.toml_working.specs.Placing.{is_header}
-use Rattle.toml_working.specs.Standing.{Standing, line_stands, is_below, standing, standing_from}
-use Rattle.toml_editor.proofs.written.Clear.{differ}
+use Rattle.toml_working.specs.Standing.{Standing, line_stands, standing, standing_from}
 use Rattle.toml_editor.proofs.written.Counted.{counts_stay, own_counts}
 use Rattle.toml_editor.proofs.written.CountedAlike.{stand_same, standing_same}
 use Rattle.toml_editor.proofs.written.DocumentSections.{named_next}
@@ -38,7 +32,6 @@ use Rattle.toml_editor.proofs.written.HeaderCounted.{back_apart, header_counted}
 use Rattle.toml_editor.proofs.written.HeaderPut.{IsApart}
 use Rattle.toml_editor.proofs.written.HeaderSplit.{IsHeadlessShown, IsOutlined, lines_of, stand_of}
 use Rattle.toml_editor.proofs.written.InsertPlace.{IsHeadless}
-use Rattle.toml_editor.proofs.written.PutStands.{ends_same}
 
 -- ---- lines, each with what stands on it
 
@@ -126,7 +119,8 @@ counted_behind lines before line between back whole none a r rest i own at =
     let owned : own_address (named b) line.0.expr ≡ Some a = ap (λ (x : Standing). x.address) here ∙ own in
     let rest_shown : shown lines ≡ (before ++ line ∷ []) ++ (between ++ back) = whole ∙ sym (append_assoc before (line ∷ []) (between ++ back)) in
     ap (λ ls. count_tables (named ls) r) (map-append (λ (x : Shown). x.0) before (line ∷ between) ∙ sym (append_assoc b (line.0 ∷ []) (lines_of between)))
-    ∙ counts_stay (b ++ line.0 ∷ []) (lines_of between) r (front_headless between back _ _ (parts (before ++ line ∷ []) (between ++ back) lines [] rest_shown).back_stands none)
+    ∙ counts_stay (b ++ line.0 ∷ []) (lines_of between) r
+    (front_headless between back _ _ (parts (before ++ line ∷ []) (between ++ back) lines [] rest_shown).back_stands none)
     ∙ own_counts b line.0 a r rest i owned at
 
 -- ---- the header line
@@ -136,7 +130,8 @@ names_outlined [] = refl
 names_outlined (n ∷ ns) = ap (λ r. bare_part (spelled n) ∷ r) (names_outlined ns)
 
 outlined : (brackets : Brackets) (ws newline : List ℕ) (ns : List (List ℕ))
-    → trees.line_of ws (trees.header_outline (opening_brackets brackets) (closing_brackets brackets) (record { before = fresh []; key = key_named ns; after = fresh [] })) no_blank (fresh newline)
+    → trees.line_of ws (trees.header_outline (opening_brackets brackets) (closing_brackets brackets)
+    (record { before = fresh []; key = key_named ns; after = fresh [] })) no_blank (fresh newline)
     ≡ record { ws = ws; expr = headers.header_of brackets (map spelled ns); tail = []; comment = None; newline = newline }
 outlined brackets ws newline [] = refl
 outlined brackets ws newline (n ∷ ns) =
