@@ -1,5 +1,5 @@
 -- Where layout `Plain` puts a new header line: it may stand there, and what then stands on the lines is what is put there.
-use Rattle.std.proofs.Common.{◌≡◌, inl, inr, ℕ, true, false, Option, Some, None, List, [], ◌∷◌, ◌++◌, refl, sym, ap, ◌∙◌, subst, true≢false, append-nil, append_assoc}
+use Rattle.std.proofs.Common.{◌≡◌, inl, inr, ℕ, true, false, Option, Some, None, List, [], ◌∷◌, ◌++◌, length, refl, sym, ap, ◌∙◌, subst, true≢false, append-nil, append_assoc}
 use Rattle.toml_tree.specs.Spells.{AreLines}
 use Rattle.toml_tree.specs.Tree.{Expr, BlankLine, KeyValLine, TableLine, ArrayTableLine, Line}
 use Rattle.toml_names.specs.declared.model.address.Step.TheVariants.{Index}
@@ -13,7 +13,7 @@ use Rattle.toml_working.specs.Headers.{before_next, has_below, innermost, new_he
 use Rattle.toml_working.specs.Inserting.{has_pair}
 use Rattle.toml_working.specs.Placing.{is_header}
 use Rattle.toml_working.specs.Seeing.{heads_below}
-use Rattle.toml_working.specs.Standing.{Standing, lies_below, line_stands, standing}
+use Rattle.toml_working.specs.Standing.{Standing, lies_below, line_stands, standing, standing_from}
 use Rattle.toml_editor.proofs.written.Counted.{AreLast}
 use Rattle.toml_editor.proofs.written.HeaderPut.{IsApart}
 use Rattle.toml_editor.proofs.written.HeaderSplit.{LastBelow, NextHeader, lines_of, next_header}
@@ -24,7 +24,7 @@ use Rattle.toml_editor.proofs.written.TablesStay.{begins_under}
 -- ---- lines by what stands on them
 
 -- no key comes before the next header, where that comes first
-pub header_unkeyed : (xs : List Named) (l : Line) (ls : List Line) → is_header (line_base xs l.expr) (own_address xs l.expr) ≡ true → has_pair (l ∷ ls) ≡ false
+header_unkeyed : (xs : List Named) (l : Line) (ls : List Line) → is_header (line_base xs l.expr) (own_address xs l.expr) ≡ true → has_pair (l ∷ ls) ≡ false
 header_unkeyed xs l ls is = by l.expr is
   where
     by : (e : Expr) → is_header (line_base xs e) (own_address xs e) ≡ true
@@ -68,14 +68,14 @@ module _ (brackets : Brackets) (p way : Address) (style : List ℕ) (lines : Lis
       ap (λ xs. count_tables (named (lines_of xs)) r) last.is
       ∙ counted_behind lines last.before last.line last.between back whole last.headless a r (more ++ rest') i own at
 
-  -- its key leads to the address from where the arrays of tables on the way are so reached; one of the element is at the innermost one or below
-  -- it; and for an element it is apart from the lines behind
+  -- The key leads to the address from where the arrays of tables on the way are so reached. A header line stands at the innermost element or below
+  -- it. An element is apart from lines that have neither a key before their first header nor a header at the innermost element or below it.
   module _ (forms : AreLines lines)
       (leads : (front back : List Line) → lines ≡ front ++ back → IsReached front → IsApart brackets p front back
       → own_address (named front) (header_expr brackets p []) ≡ Some p)
       (headed : (e : Address) → innermost way ≡ Some e → has_below e (standing lines) ≡ true)
-      (apart : (e : Address) → innermost way ≡ Some e → (it : NextHeader (h style) (new style) e (shown lines))
-      → IsApart brackets p (lines_of it.parted.front) (lines_of (it.parted.head ∷ it.parted.rest))) where
+      (apart : (e : Address) → innermost way ≡ Some e → (front back : List Line) → has_pair back ≡ false
+      → has_below e (standing_from (named front) (length front) back) ≡ false → IsApart brackets p front back) where
     -- before the next header line behind those of the element
     next_put : (e : Address) → innermost way ≡ Some e → (it : NextHeader (h style) (new style) e (shown lines))
         → IsPlaced brackets p style lines (or_line_at_end h style lines (line_before_next e (h style) (shown lines)))
@@ -88,8 +88,9 @@ module _ (brackets : Brackets) (p way : Address) (style : List ℕ) (lines : Lis
         let here : line_stands (named front) parted.head.0 ≡ parted.head.1 = (let x = are.back_stands in cc) in
         let unkeyed : has_pair back ≡ false =
         header_unkeyed (named front) parted.head.0 (lines_of parted.rest) (ap (λ (s : Standing). is_header s.base s.address) here ∙ parted.heads) in
-        put_before brackets p style lines [] (λ are'. tt) parted.front (parted.head ∷ parted.rest) parted.was (λ none. cc) unkeyed (apart e inner it)
-        (leads front back are.lines (reached_behind e inner parted.front (parted.head ∷ parted.rest) parted.was it.last) (apart e inner it)) _ _
+        let alone = apart e inner front back unkeyed (ap (has_below e) are.back_stands ∙ it.behind) in
+        put_before brackets p style lines [] (λ are'. tt) parted.front (parted.head ∷ parted.rest) parted.was (λ none. cc) unkeyed alone
+        (leads front back are.lines (reached_behind e inner parted.front (parted.head ∷ parted.rest) parted.was it.last) alone) _ _
         (ap (or_line_at_end h style lines) parted.lines)
         (ap (or_last new style (standing lines)) (ap (before_next e (new style)) (sym (shown_stands lines (root ∷ []) 0)) ∙ parted.stands))
 

@@ -59,4 +59,4 @@ pub section_goes : (q : Address) (name style : List ℕ) (lines : List Line) (ki
     (put_plainly (innermost q) (new_header (child q name) One []) style (standing lines))
 section_goes q name style lines kinds forms keeps facts room outside =
     header_put One (child q name) q style lines forms (λ front back split reached apart. leads lines front back q name [] kinds split keeps facts room.table reached)
-    (element_headed lines q kinds keeps facts room.table outside) (λ e inner it. tt)
+    (element_headed lines q kinds keeps facts room.table outside) (λ e inner front back unkeyed unheaded. tt)
