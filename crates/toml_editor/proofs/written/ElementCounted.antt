@@ -1,5 +1,5 @@
 -- How many tables an array of tables has by the data, and that the key of the header line of its next element leads to that.
-use Rattle.std.proofs.Common.{◌≡◌, ◌∙◌, ◌⊎◌, inl, inr, ℕ, zero, suc, ◌+◌, ◌<◌, ◌≤◌, Bool, true, false, ◌||◌, Option, Some, None, IsSome, List, [], ◌∷◌, ◌++◌, length, length-append, refl, sym, ap, ap₂, subst, true≢false, append-nil, append_assoc, arith}
+use Rattle.std.proofs.Common.{◌≡◌, ◌∙◌, ◌⊎◌, inl, inr, ℕ, zero, suc, ◌+◌, ◌<◌, ◌≤◌, Bool, true, false, ◌||◌, Some, None, IsSome, List, [], ◌∷◌, ◌++◌, length, length-append, refl, sym, ap, ap₂, subst, true≢false, append-nil, append_assoc, arith}
 use Rattle.std.specs.Bool.{nat_lt}
 use Rattle.std.specs.List.{list_any}
 use Rattle.std.proofs.lemmas.Bool.Decides.{nat_tests}
@@ -7,10 +7,9 @@ use Rattle.std.proofs.lemmas.Option.{same_Some}
 use Rattle.toml_tree.specs.Bare.{fresh}
 use Rattle.toml_tree.specs.Spells.{EachIs}
 use Rattle.toml_tree.specs.Tree.{Expr, BlankLine, KeyValLine, TableLine, ArrayTableLine, Line}
-use Rattle.toml_names.specs.declared.model.address.Step.{Step}
 use Rattle.toml_names.specs.declared.model.address.Step.TheVariants.{Name, Index}
 use Rattle.toml_names.specs.mentions.Keys.{Key, key_names, part_name, rest_names}
-use Rattle.toml_names.specs.mentions.Mentions.{Kind, Named, a_table, an_array, count_tables, named, named_by, named_from, root, section}
+use Rattle.toml_names.specs.mentions.Mentions.{Kind, Named, a_table, an_array, count_tables, ends_tables, named, named_by, named_from, root, section}
 use Rattle.toml_names.specs.mentions.Rules.{KeepsRules}
 use Rattle.toml_names.specs.model.Addresses.{Address, below, child, element, same_address}
 use Rattle.toml_names.specs.model.Data.{IsDataOf, Kinds}
@@ -21,14 +20,13 @@ use Rattle.toml_layout.specs.Beginnings.{begins}
 use Rattle.toml_layout.specs.declared.tree.Brackets.TheVariants.{One, Two}
 use Rattle.toml_working.specs.declared.lines.Sought.TheVariants as sought
 use Rattle.toml_working.specs.Heading.{header_expr, key_named}
-use Rattle.toml_working.specs.Headers.{has_below, names_of}
+use Rattle.toml_working.specs.Headers.{has_below}
 use Rattle.toml_working.specs.Removing.{no_blank}
 use Rattle.toml_working.specs.Seeing.{is_sought_line}
 use Rattle.toml_working.specs.Standing.{Standing, holds, is_below, leads_to, lies_below, standing, standing_from}
-use Rattle.toml_editor.proofs.written.Clear.{below-cons, same_is}
+use Rattle.toml_editor.proofs.written.Clear.{IsUnder, below-cons, same_is}
 use Rattle.toml_editor.proofs.written.Counted.{AreLast, count_array, count_next, count_none, count_pair, count_table, counts_grow, last_step, one_if, own_counts, same_last}
-use Rattle.toml_editor.proofs.written.CountedAlike.{under_begins}
-use Rattle.toml_editor.proofs.written.CountedArrays.{IsNamedLast, element_unnamed}
+use Rattle.toml_editor.proofs.written.CountedArrays.{IsNamedLast, element_unnamed, followed_has}
 use Rattle.toml_editor.proofs.written.DocumentSections.{begins_longer, line_of, named_next}
 use Rattle.toml_editor.proofs.written.ElementHeaded.{some_named, unheaded_unnamed}
 use Rattle.toml_editor.proofs.written.EmptyAlone.{not_any}
@@ -36,9 +34,14 @@ use Rattle.toml_editor.proofs.written.HeaderLeads.{leads}
 use Rattle.toml_editor.proofs.written.HeaderPlace.{below_is}
 use Rattle.toml_editor.proofs.written.HeaderPut.{IsApart}
 use Rattle.toml_editor.proofs.written.OneSection.{among_of}
-use Rattle.toml_editor.proofs.written.Pairwise.{Has, any_of_has, has_append_left, has_append_right, has_weaker}
+use Rattle.toml_editor.proofs.written.Pairwise.{Has, any_of_has, has_append_left, has_append_right}
 use Rattle.toml_editor.proofs.written.SectionFacts.{IsNextElement}
-use Rattle.toml_editor.proofs.written.StandingOrder.{Own, begins_is, own_named}
+use Rattle.toml_editor.proofs.written.SectionNamed.{names_of_element}
+use Rattle.toml_editor.proofs.written.StandingOrder.{begins_is}
+
+-- what lies at an address or below it begins with it
+pub under_begins : (q a : Address) → IsUnder q a → begins q a ≡ true
+under_begins q a (rest, is) = ap (begins q) is ∙ begins_longer q rest
 
 abbrev IsAt : Address → Named → Type 0
 IsAt at m = m.address ≡ at
@@ -70,13 +73,13 @@ module _ (q : Address) where
       counted = count_array xs line q (part_name header.key.first) (rest_names header.key.rest)
 
       by : (b : Bool) → same_address at q ≡ b
-          → (count_tables (named_by xs line (ArrayTableLine ws header tail)) q ≡ 1) × Has (IsAt (element q (count_tables xs q))) (named_by xs line (ArrayTableLine ws header tail))
+          → (count_tables (named_by xs line (ArrayTableLine ws header tail)) q ≡ 1)
+          × Has (IsAt (element q (count_tables xs q))) (named_by xs line (ArrayTableLine ws header tail))
       by true same =
-          let a = element at (count_tables xs at) in
-          let own : own_address xs (ArrayTableLine ws header tail) ≡ Some (element q (count_tables xs q)) = ap (λ x. Some (element x (count_tables xs x))) (same_is at q same) in (
+          let one : element at (count_tables xs at) ≡ element q (count_tables xs q) = ap (λ x. element x (count_tables xs x)) (same_is at q same) in (
             counted ∙ ap one_if same,
-            has_weaker (Own (line_base xs (ArrayTableLine ws header tail)) (element q (count_tables xs q))) (IsAt (element q (count_tables xs q))) (λ m h. h.0)
-                (named_by xs line (ArrayTableLine ws header tail)) (own_named xs line (ArrayTableLine ws header tail) (element q (count_tables xs q)) own),
+            followed_has (IsAt (element q (count_tables xs q))) xs line (ends_tables line xs) (rest_names header.key.rest) (part_name header.key.first) []
+                (inr (inl one)),
           )
       by false other = absurd (some (counted ∙ ap one_if other))
 
@@ -130,7 +133,8 @@ module _ (q : Address) where
       by : (b : Bool) → same_address at q ≡ b → same_address at q ≡ false
       by false other = other
       by true same =
-          absurd (true≢false (sym (under_begins q (element at (count_tables xs at)) (Index (count_tables xs at) ∷ [], ap (λ x. element x (count_tables xs at)) (same_is at q same))) ∙ away))
+          let c = count_tables xs at in
+          absurd (true≢false (sym (under_begins q (element at c) (Index c ∷ [], ap (λ x. element x c) (same_is at q same))) ∙ away))
 
   count_away : (back front : List Line) → EachIs (λ s. is_below q s ≡ false) (standing_from (named front) (length front) back)
       → count_tables (named (front ++ back)) q ≡ count_tables (named front) q
@@ -152,7 +156,8 @@ module _ (q : Address) where
   named_below (m ∷ names) n at = subst IsNamedLast (below-cons at n (m ∷ names)) (named_below names m (child at n))
 
   -- what holds an element holds the array
-  holds_array : (j : ℕ) (xs : List Named) (e : Expr) → leads_to q (line_base xs e) (own_address xs e) ≡ false → leads_to (element q j) (line_base xs e) (own_address xs e) ≡ false
+  holds_array : (j : ℕ) (xs : List Named) (e : Expr) → leads_to q (line_base xs e) (own_address xs e) ≡ false
+      → leads_to (element q j) (line_base xs e) (own_address xs e) ≡ false
   holds_array j xs (BlankLine b) none = refl
   holds_array j xs (TableLine ws header tail) none = refl
   holds_array j xs (ArrayTableLine ws header tail) none = refl
@@ -213,7 +218,8 @@ module _ (q : Address) where
         by true more =
             let low : i < c = grind (arith, nat_tests, more) in
             let (k, named_so) = has_kind (named lines) (element q i) (counted_named lines i low) in
-            absurd (let is : None ≡ Some k = sym free ∙ (facts (element q i) k).1 (any_of_has (λ m. (m.address ≡ element q i) × (m.kind ≡ k)) (named lines) named_so) in cc)
+            absurd (let is : None ≡ Some k =
+            sym free ∙ (facts (element q i) k).1 (any_of_has (λ m. (m.address ≡ element q i) × (m.kind ≡ k)) (named lines) named_so) in cc)
         by false not_more =
             let high : c ≤ i = grind (arith, nat_tests, not_more) in
             let low = at_least i refl in
@@ -221,19 +227,13 @@ module _ (q : Address) where
 
 -- ---- the key
 
--- an index adds no name
-index_named : (q : Address) (i : ℕ) → names_of (element q i) ≡ names_of q
-index_named [] i = refl
-index_named (Name n ∷ q) i = ap (λ r. n ∷ r) (index_named q i)
-index_named (Index j ∷ q) i = index_named q i
-
 -- The key of an element's header leads to it, from where each index of the array's address is that of the last table of its array, and the array
 -- has as many tables as the index says.
 element_leads : (lines front back : List Line) (r : Address) (n : List ℕ) (i : ℕ) (ws : List ℕ) (kinds : Kinds) → lines ≡ front ++ back → KeepsRules (named lines)
     → IsDataOf (named lines) kinds → kinds r ≡ Some a_table → AreLast (named front) (child r n) → count_tables (named front) (child r n) ≡ i
     → own_address (named front) (header_expr Two (element (child r n) i) ws) ≡ Some (element (child r n) i)
 element_leads lines front back r n i ws kinds parts keeps facts table last count =
-    ap (λ ns. own_address xs (header_expr_of ns)) (index_named q i)
+    ap (λ ns. own_address xs (header_expr_of ns)) (names_of_element q i)
     ∙ ap (λ at. Some (element at (count_tables xs at))) (same_Some _ q leads_there) ∙ ap (λ c. Some (element q c)) count
   where
     q : Address
@@ -257,12 +257,13 @@ pub apart_element : (q : Address) (i : ℕ) (front back : List Line) → list_an
 apart_element q i front back none a j is =
     subst (λ x. list_any (is_below x) (standing_from (named front) (length front) back) ≡ false) (same_last q a (Index i) (Index j) is).0 none
 
-module _ (q : Address) (i : ℕ) (lines : List Line) (kinds : Kinds) (keeps : KeepsRules (named lines)) (facts : IsDataOf (named lines) kinds) (next : IsNextElement q i kinds)
-    (outside : list_any (holds q) (standing lines) ≡ false) where
+module _ (q : Address) (i : ℕ) (lines : List Line) (kinds : Kinds) (keeps : KeepsRules (named lines)) (facts : IsDataOf (named lines) kinds)
+    (next : IsNextElement q i kinds) (outside : list_any (holds q) (standing lines) ≡ false) where
   next_count : count_tables (named lines) q ≡ i
   next_count = count_is q lines kinds facts outside i next.free (elements next.next)
     where
-      elements : ((kinds q ≡ None) × (i ≡ 0)) ⊎ ((kinds q ≡ Some an_array) × ((j : ℕ) → j < i → IsSome (kinds (element q j)))) → (j : ℕ) → j < i → IsSome (kinds (element q j))
+      elements : ((kinds q ≡ None) × (i ≡ 0)) ⊎ ((kinds q ≡ Some an_array) × ((j : ℕ) → j < i → IsSome (kinds (element q j))))
+          → (j : ℕ) → j < i → IsSome (kinds (element q j))
       elements (inl first) j low = absurd (let zero_is = first.1 in omega (arith, zero_is, low))
       elements (inr more) j low = more.1 j low
 

@@ -1,5 +1,5 @@
 -- An element of an array of tables that stands in no value has a header line, or one below it does.
-use Rattle.std.proofs.Common.{◌≡◌, inl, inr, ℕ, ◌<◌, ◌+◌, Bool, true, false, ◌&&◌, ◌||◌, Option, Some, None, IsSome, List, [], ◌∷◌, ◌++◌, map, length, refl, sym, ap, ◌∙◌, subst, true≢false, append-nil, append_assoc, arith}
+use Rattle.std.proofs.Common.{◌≡◌, ℕ, ◌<◌, ◌+◌, Bool, true, false, ◌||◌, Option, Some, None, IsSome, List, [], ◌∷◌, ◌++◌, map, length, refl, sym, ap, ◌∙◌, subst, true≢false, append_assoc, arith}
 use Rattle.std.specs.Bool.{nat_lt}
 use Rattle.std.specs.List.{list_any}
 use Rattle.std.proofs.lemmas.Bool.{and_parts}
@@ -11,7 +11,7 @@ use Rattle.toml_names.specs.declared.model.address.Step.TheVariants.{Index, Name
 use Rattle.toml_names.specs.mentions.Keys.{Key, key_names}
 use Rattle.toml_names.specs.mentions.Mentions.{Kind, Named, a_table, named, named_by, root, section}
 use Rattle.toml_names.specs.mentions.Rules.{KeepsRules}
-use Rattle.toml_names.specs.model.Addresses.{Address, IsAbove, below, is_above}
+use Rattle.toml_names.specs.model.Addresses.{Address, below, is_above}
 use Rattle.toml_names.specs.model.Data.{IsDataOf, Kinds}
 use Rattle.toml_names.specs.reader.Names.{own_address}
 use Rattle.toml_names.proofs.Proved.{above_is_above, lines_are_closed}
@@ -21,8 +21,7 @@ use Rattle.toml_layout.specs.Beginnings.{begins}
 use Rattle.toml_working.specs.declared.lines.Sought.TheVariants as sought
 use Rattle.toml_working.specs.Headers.{has_below, inner_of, innermost}
 use Rattle.toml_working.specs.Seeing.{heads_below, is_dotted, is_sought_line}
-use Rattle.toml_working.specs.Standing.{Standing, holds, leads_to, line_stands, standing, standing_from}
-use Rattle.toml_editor.proofs.Each.{each_weaker}
+use Rattle.toml_working.specs.Standing.{Standing, holds, leads_to, standing, standing_from}
 use Rattle.toml_editor.proofs.written.Alike.{alike_self}
 use Rattle.toml_editor.proofs.written.DocumentSections.{begins_longer}
 use Rattle.toml_editor.proofs.written.EmptyAlone.{IsAway, NotThere, lines_away, not_any}
@@ -62,7 +61,8 @@ pub inner_is : (q e : Address) → innermost q ≡ Some e → IsInner q e
 inner_is [] e is = cc
 inner_is (s ∷ q) e is = by (innermost q) refl s (λ f found. inner_is q f found) is
   where
-    by : (o : Option Address) → innermost q ≡ o → (t : Step) → ((f : Address) → innermost q ≡ Some f → IsInner q f) → inner_of (innermost q) t ≡ Some e → IsInner (t ∷ q) e
+    by : (o : Option Address) → innermost q ≡ o → (t : Step) → ((f : Address) → innermost q ≡ Some f → IsInner q f)
+        → inner_of (innermost q) t ≡ Some e → IsInner (t ∷ q) e
     by None none (Name n) more h = (let x : ◌≡◌ {A = Option Address} None (Some e) = sym (ap (λ o. inner_of o (Name n)) none) ∙ h in cc)
     by None none (Index i) more h =
         let same : Index i ∷ [] ≡ e = (let x : ◌≡◌ {A = Option Address} (Some (Index i ∷ [])) (Some e) = sym (ap (λ o. inner_of o (Index i)) none) ∙ h in cc) in
@@ -70,12 +70,19 @@ inner_is (s ∷ q) e is = by (innermost q) refl s (λ f found. inner_is q f foun
     by (Some f) found t more h =
         let same : t ∷ f ≡ e = (let x : ◌≡◌ {A = Option Address} (Some (t ∷ f)) (Some e) = sym (ap (λ o. inner_of o t) found) ∙ h in cc) in
         let it = more f found in
-        record { array = t ∷ it.array; index = it.index; is = sym same ∙ ap (λ x. t ∷ x) it.is; rest = it.rest; front = ap (λ x. t ∷ x) it.front ∙ ap (λ x. x ++ it.rest) same }
+        record {
+          array = t ∷ it.array;
+          index = it.index;
+          is = sym same ∙ ap (λ x. t ∷ x) it.is;
+          rest = it.rest;
+          front = ap (λ x. t ∷ x) it.front ∙ ap (λ x. x ++ it.rest) same;
+        }
 
 -- ---- no key names it
 
 -- a key adds names alone
-no_index : (s r : Address) (key : Key) (i : ℕ) (t : Step) (rest : Address) → s ++ map Name key ≡ (r ++ Index i ∷ []) ++ t ∷ rest → length s < length (r ++ Index i ∷ []) → ⊥
+no_index : (s r : Address) (key : Key) (i : ℕ) (t : Step) (rest : Address) → s ++ map Name key ≡ (r ++ Index i ∷ []) ++ t ∷ rest
+    → length s < length (r ++ Index i ∷ []) → ⊥
 no_index [] [] [] i t rest is low = cc
 no_index [] [] (n ∷ key) i t rest is low = cc
 no_index [] (u ∷ r) [] i t rest is low = cc
@@ -126,7 +133,8 @@ module _ (e array : Address) (i : ℕ) (ends : e ≡ array ++ Index i ∷ []) wh
       no_end (s ∷ a) h = cc
 
   -- where no line's value holds it, and no header is there or below, it is not named
-  pub unheaded_unnamed : (lines : List Line) → list_any (holds e) (standing lines) ≡ false → has_below e (standing lines) ≡ false → ¬ Has (λ m. m.address ≡ e) (named lines)
+  pub unheaded_unnamed : (lines : List Line) → list_any (holds e) (standing lines) ≡ false → has_below e (standing lines) ≡ false
+      → ¬ Has (λ m. m.address ≡ e) (named lines)
   unheaded_unnamed lines none unheaded =
       away_unnamed e not_root lines
       (all_away lines (root ∷ []) 0 (not_any (holds e) (standing lines) none) (not_any (is_sought_line sought.HeaderBelow e) (standing lines) unheaded))
@@ -168,4 +176,5 @@ element_headed lines q kinds keeps facts table outside e inner = by (has_below e
     by : (b : Bool) → has_below e (standing lines) ≡ b → has_below e (standing lines) ≡ true
     by true is = is
     by false is =
-        absurd (unheaded_unnamed e it.array it.index it.is lines (none_holds e it.rest (standing lines) (subst (λ x. list_any (holds x) (standing lines) ≡ false) it.front outside)) is (some_named lines kinds facts e there))
+        absurd (unheaded_unnamed e it.array it.index it.is lines
+        (none_holds e it.rest (standing lines) (subst (λ x. list_any (holds x) (standing lines) ≡ false) it.front outside)) is (some_named lines kinds facts e there))

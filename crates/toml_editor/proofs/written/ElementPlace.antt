@@ -1,7 +1,6 @@
 -- Where layout `Plain` puts the header line of a new element: it may stand there, and no line behind stands at its array or below it.
-use Rattle.std.proofs.Common.{◌≡◌, ◌⊎◌, inl, inr, ℕ, ◌+◌, Bool, true, false, ◌||◌, Option, Some, None, List, [], ◌∷◌, ◌++◌, length, length-append, refl, sym, ap, ap₂, ◌∙◌, subst, true≢false, append-nil, append_assoc}
+use Rattle.std.proofs.Common.{◌≡◌, ◌⊎◌, inl, inr, ℕ, Bool, true, false, ◌||◌, Option, Some, None, List, [], ◌∷◌, ◌++◌, length, length-append, refl, sym, ap, ap₂, ◌∙◌, subst, true≢false, append-nil, append_assoc}
 use Rattle.std.specs.List.{list_any}
-use Rattle.std.proofs.lemmas.Option.{same_Some}
 use Rattle.toml_tree.specs.Spells.{AreLines, EachIs}
 use Rattle.toml_tree.specs.Tree.{Expr, BlankLine, KeyValLine, TableLine, ArrayTableLine, Line}
 use Rattle.toml_names.specs.declared.model.address.Step.TheVariants.{Index, Name}
@@ -16,24 +15,20 @@ use Rattle.toml_names.proofs.Proved.{header_is_section}
 use Rattle.toml_layout.specs.Beginnings.{begins}
 use Rattle.toml_layout.specs.declared.tree.Brackets.TheVariants.{Two}
 use Rattle.toml_working.specs.declared.lines.Sought.TheVariants as sought
-use Rattle.toml_working.specs.Heading.{header_line, header_lines, shown}
+use Rattle.toml_working.specs.Heading.{header_lines}
 use Rattle.toml_working.specs.Headers.{has_below, inner_of, innermost, new_header, put_plainly}
 use Rattle.toml_working.specs.Inserting.{has_pair}
 use Rattle.toml_working.specs.Seeing.{is_sought_line}
-use Rattle.toml_working.specs.Placing.{is_header}
-use Rattle.toml_working.specs.Standing.{Standing, holds, is_below, lies_below, line_stands, standing, standing_from}
+use Rattle.toml_working.specs.Standing.{holds, is_below, lies_below, line_stands, standing, standing_from}
 use Rattle.toml_editor.proofs.written.Alike.{section_pair}
 use Rattle.toml_editor.proofs.written.Counted.{names_last}
-use Rattle.toml_editor.proofs.written.CountedAlike.{under_begins}
 use Rattle.toml_editor.proofs.written.DocumentSections.{named_next}
-use Rattle.toml_editor.proofs.written.ElementCounted.{apart_element, next_leads}
+use Rattle.toml_editor.proofs.written.ElementCounted.{apart_element, next_leads, under_begins}
 use Rattle.toml_editor.proofs.written.ElementHeaded.{element_headed, inner_is, none_holds}
 use Rattle.toml_editor.proofs.written.EmptyAlone.{not_any}
-use Rattle.toml_editor.proofs.written.HeaderPlace.{header_put, header_unkeyed}
+use Rattle.toml_editor.proofs.written.HeaderPlace.{header_put}
 use Rattle.toml_editor.proofs.written.HeaderPut.{IsApart}
-use Rattle.toml_editor.proofs.written.HeaderSplit.{NextHeader, lines_of}
-use Rattle.toml_editor.proofs.written.HeaderStood.{parts}
-use Rattle.toml_editor.proofs.written.HeaderThere.{IsPutThere}
+use Rattle.toml_editor.proofs.written.HeaderThere.{IsPlaced}
 use Rattle.toml_editor.proofs.written.SectionFacts.{IsNextElement}
 use Rattle.toml_editor.proofs.written.TablesStay.{begins_under}
 
@@ -105,28 +100,23 @@ module _ (e array : Address) (i : ℕ) (e_is : e ≡ element array i) (rest : Ad
 -- by layout `Plain` the header line goes where it may stand
 pub element_goes : (q : Address) (i : ℕ) (style : List ℕ) (lines : List Line) (kinds : Kinds) → AreLines lines → KeepsRules (named lines) → IsDataOf (named lines) kinds
     → IsNextElement q i kinds → list_any (holds q) (standing lines) ≡ false
-    → IsPutThere Two (element q i) style lines (header_lines q Two (element q i) style lines) (put_plainly (innermost q) (new_header (element q i) Two []) style (standing lines))
+    → IsPlaced Two (element q i) style lines (header_lines q Two (element q i) style lines)
+    (put_plainly (innermost q) (new_header (element q i) Two []) style (standing lines))
 element_goes q i style lines kinds forms keeps facts next outside =
     header_put Two (element q i) q style lines forms (next_leads q i lines kinds keeps facts next outside []) headed apart
   where
     headed : (e : Address) → innermost q ≡ Some e → has_below e (standing lines) ≡ true
     headed e inner =
         let (r, n, q_is, table) = next.table in
-        element_headed lines r kinds keeps facts table (none_holds r (Name n ∷ []) (standing lines) (subst (λ x. list_any (holds x) (standing lines) ≡ false) q_is outside)) e
+        element_headed lines r kinds keeps facts table
+        (none_holds r (Name n ∷ []) (standing lines) (subst (λ x. list_any (holds x) (standing lines) ≡ false) q_is outside)) e
         (sym (inner_child r n) ∙ ap innermost (sym q_is) ∙ inner)
 
-    apart : (e : Address) → innermost q ≡ Some e → (it : NextHeader (header_line Two (element q i) [] style) (new_header (element q i) Two [] style) e (shown lines))
-        → IsApart Two (element q i) (lines_of it.parted.front) (lines_of (it.parted.head ∷ it.parted.rest))
-    apart e inner it =
-        let element_is = inner_is q e inner in
-        let parted = it.parted in
-        let front = lines_of parted.front in
-        let back = lines_of (parted.head ∷ parted.rest) in
-        let are = parts parted.front (parted.head ∷ parted.rest) lines [] parted.was in
-        let here : line_stands (named front) parted.head.0 ≡ parted.head.1 = (let x = are.back_stands in cc) in
-        let unkeyed : has_pair back ≡ false =
-        header_unkeyed (named front) parted.head.0 (lines_of parted.rest) (ap (λ (s : Standing). is_header s.base s.address) here ∙ parted.heads) in
+    apart : (e : Address) → innermost q ≡ Some e → (front back : List Line) → has_pair back ≡ false
+        → has_below e (standing_from (named front) (length front) back) ≡ false → IsApart Two (element q i) front back
+    apart e inner front back unkeyed unheaded =
+        let it = inner_is q e inner in
         apart_element q i front back
-        (subst (λ x. list_any (is_below x) (standing_from (named front) (length front) back) ≡ false) (sym element_is.front)
-        (lines_off e element_is.array element_is.index element_is.is element_is.rest back front (inl unkeyed)
-        (not_any (is_sought_line sought.HeaderBelow e) (standing_from (named front) (length front) back) (ap (has_below e) are.back_stands ∙ it.behind))))
+        (subst (λ x. list_any (is_below x) (standing_from (named front) (length front) back) ≡ false) (sym it.front)
+        (lines_off e it.array it.index it.is it.rest back front (inl unkeyed)
+        (not_any (is_sought_line sought.HeaderBelow e) (standing_from (named front) (length front) back) unheaded)))

@@ -56,7 +56,7 @@ entered_under xs at e under = by (count_tables xs e == 0)
     by false = under_trans at e (element e (count_tables xs e - 1)) under (Index (count_tables xs e - 1) ∷ [], refl)
 
 -- what a header passes lies above where its key ends
-pub end_under : (xs : List Named) (key : Key) (at : Address) → IsUnder at (header_end xs at key)
+end_under : (xs : List Named) (key : Key) (at : Address) → IsUnder at (header_end xs at key)
 end_under xs [] at = ([], sym (append-nil at))
 end_under xs (n ∷ []) at = (Name n ∷ [], refl)
 end_under xs (n ∷ m ∷ more) at =

@@ -1,14 +1,13 @@
--- What a section or an element without a fault tells of the data, and where layout `Follow` puts its header line.
-use Rattle.std.proofs.Common.{◌≡◌, ◌⊎◌, ℕ, ◌<◌, Bool, true, false, ◌&&◌, ◌||◌, cond, Option, Some, None, IsSome, List, [], ◌∷◌, ◌++◌, inl, inr, length, refl, sym, ap, ap₂, ◌∙◌, subst, true≢false, append_assoc, arith}
+-- Where layout `Follow` puts the header line of a section or an element without a fault.
+use Rattle.std.proofs.Common.{◌≡◌, ℕ, Bool, true, false, ◌&&◌, ◌||◌, Option, Some, None, IsSome, List, [], ◌∷◌, ◌++◌, length, refl, sym, ap, ap₂, ◌∙◌, subst, true≢false}
 use Rattle.std.specs.Prelude.{is_some, not, option_map}
 use Rattle.std.specs.Bool.{nat_lt}
 use Rattle.std.specs.List.{list_any}
-use Rattle.std.proofs.lemmas.Bool.{and_parts, cond-true, cond-false}
+use Rattle.std.proofs.lemmas.Bool.{cond-true, cond-false}
 use Rattle.toml_tree.specs.Spells.{AreLines, EachIs}
 use Rattle.toml_tree.specs.Tree.{Line}
-use Rattle.toml_names.specs.declared.model.address.Step.{Step}
-use Rattle.toml_names.specs.declared.model.address.Step.TheVariants.{Name, Index}
-use Rattle.toml_names.specs.mentions.Mentions.{Kind, Named, a_table, an_array, count_tables, named, root}
+use Rattle.toml_names.specs.declared.model.address.Step.TheVariants.{Name}
+use Rattle.toml_names.specs.mentions.Mentions.{named}
 use Rattle.toml_names.specs.mentions.Rules.{KeepsRules}
 use Rattle.toml_names.specs.model.Addresses.{Address, child, element, is_above}
 use Rattle.toml_names.specs.model.Data.{IsDataOf, Kinds}
@@ -19,12 +18,10 @@ use Rattle.toml_working.specs.FollowingHeaders.{behind_family, family, header_be
 use Rattle.toml_working.specs.Heading.{header_expr, shown}
 use Rattle.toml_working.specs.Headers.{element_of}
 use Rattle.toml_working.specs.RemoveStanding.{makes}
-use Rattle.toml_working.specs.Seeing.{heads_below, is_dotted}
 use Rattle.toml_working.specs.Standing.{Standing, holds, is_below, lies_below, standing, standing_from}
 use Rattle.toml_working.specs.HeadingFollowed.{header_followed, header_line_behind, line_behind_family, or_header_at_end}
-use Rattle.toml_editor.proofs.written.Counted.{AreLast, last_child, same_last}
-use Rattle.toml_editor.proofs.written.CountedAlike.{under_begins}
-use Rattle.toml_editor.proofs.written.ElementCounted.{apart_element, next_leads}
+use Rattle.toml_editor.proofs.written.Counted.{AreLast, last_child}
+use Rattle.toml_editor.proofs.written.ElementCounted.{apart_element, next_leads, under_begins}
 use Rattle.toml_editor.proofs.written.ElementHeaded.{away_unnamed, none_holds, some_named}
 use Rattle.toml_editor.proofs.written.EmptyAlone.{IsAway, not_any}
 use Rattle.toml_editor.proofs.written.FollowedPlace.{followed_put}
@@ -32,7 +29,7 @@ use Rattle.toml_editor.proofs.written.HeaderLeads.{leads}
 use Rattle.toml_editor.proofs.written.HeaderPut.{IsApart}
 use Rattle.toml_editor.proofs.written.HeaderSplit.{any_back}
 use Rattle.toml_editor.proofs.written.HeaderStood.{stand_append}
-use Rattle.toml_editor.proofs.written.HeaderThere.{IsPutThere, put_as}
+use Rattle.toml_editor.proofs.written.HeaderThere.{IsPlaced}
 use Rattle.toml_editor.proofs.written.SectionFacts.{IsNextElement, IsRoom}
 
 -- ---- addresses
@@ -96,9 +93,9 @@ line_below lines kinds facts q some outside not_root = by (list_any (is_below q)
 -- by layout `Follow` the header line goes where it may stand
 pub section_followed : (q : Address) (name style : List ℕ) (may : Bool) (lines : List Line) (kinds : Kinds) → AreLines lines → KeepsRules (named lines)
     → IsDataOf (named lines) kinds → IsRoom q name kinds → list_any (holds q) (standing lines) ≡ false
-    → IsPutThere One (child q name) style lines (header_followed q One (child q name) style may lines) (put_following q (child q name) One style may (standing lines))
+    → IsPlaced One (child q name) style lines (header_followed q One (child q name) style may lines) (put_following q (child q name) One style may (standing lines))
 section_followed q name style may lines kinds forms keeps facts room outside =
-    subst (λ f. IsPutThere One p style lines (header_at f) (put_at f)) (sym family_is)
+    subst (λ f. IsPlaced One p style lines (header_at f) (put_at f)) (sym family_is)
     (followed_put One p q q style may lines forms (λ xs last. last)
     (λ ws front back split last apart. leads lines front back q name ws kinds split keeps facts room.table last)
     (line_below lines kinds facts q (subst IsSome (sym room.table) refl) outside) (λ front back split none. tt))
@@ -120,7 +117,7 @@ section_followed q name style may lines kinds forms keeps facts room outside =
 -- by layout `Follow` the header line goes where it may stand
 pub element_followed : (q : Address) (i : ℕ) (style : List ℕ) (may : Bool) (lines : List Line) (kinds : Kinds) → AreLines lines → KeepsRules (named lines)
     → IsDataOf (named lines) kinds → IsNextElement q i kinds → list_any (holds q) (standing lines) ≡ false
-    → IsPutThere Two (element q i) style lines (header_followed q Two (element q i) style may lines) (put_following q (element q i) Two style may (standing lines))
+    → IsPlaced Two (element q i) style lines (header_followed q Two (element q i) style may lines) (put_following q (element q i) Two style may (standing lines))
 element_followed q i style may lines kinds forms keeps facts next outside = by (list_any (is_below q) (standing lines)) refl
   where
     p : Address
@@ -145,19 +142,20 @@ element_followed q i style may lines kinds forms keeps facts next outside = by (
         → own_address (named front) (header_expr Two p ws) ≡ Some p
     leads_there = next_leads q i lines kinds keeps facts next outside
 
-    put_by : (f : Address) → family q p (standing lines) ≡ f → IsPutThere Two p style lines (header_at f) (put_at f)
-        → IsPutThere Two p style lines (header_followed q Two p style may lines) (put_following q p Two style may (standing lines))
-    put_by f is = subst (λ x. IsPutThere Two p style lines (header_at x) (put_at x)) (sym is)
+    put_by : (f : Address) → family q p (standing lines) ≡ f → IsPlaced Two p style lines (header_at f) (put_at f)
+        → IsPlaced Two p style lines (header_followed q Two p style may lines) (put_following q p Two style may (standing lines))
+    put_by f is = subst (λ x. IsPlaced Two p style lines (header_at x) (put_at x)) (sym is)
 
     by : (b : Bool) → list_any (is_below q) (standing lines) ≡ b
-        → IsPutThere Two p style lines (header_followed q Two p style may lines) (put_following q p Two style may (standing lines))
+        → IsPlaced Two p style lines (header_followed q Two p style may lines) (put_following q p Two style may (standing lines))
     by true there =
         put_by q (cond-false _ _ _ (ap₂ (λ a b. a && not b) (index_is_element q i) there))
         (followed_put Two p q q style may lines forms (λ xs last. last) leads_there (λ not_root. there) (λ front back split none. apart_element q i front back none))
     by false none =
         put_by r (cond-true _ _ _ (ap₂ (λ a b. a && not b) (index_is_element q i) none) ∙ ap right_above q_is ∙ above_child r n)
         (followed_put Two p q r style may lines forms (λ xs last. subst (AreLast xs) (sym q_is) (last_child xs r n last)) leads_there
-        (line_below lines kinds facts r (subst IsSome (sym next.table.3) refl) (none_holds r (Name n ∷ []) (standing lines) (subst (λ x. list_any (holds x) (standing lines) ≡ false) q_is outside)))
+        (line_below lines kinds facts r (subst IsSome (sym next.table.3) refl)
+        (none_holds r (Name n ∷ []) (standing lines) (subst (λ x. list_any (holds x) (standing lines) ≡ false) q_is outside)))
         (λ front back split away. apart_element q i front back
         (any_back (is_below q) (standing front) (standing_from (named front) (length front) back)
         (ap (list_any (is_below q)) (sym (stand_append front back [])) ∙ ap (λ ls. list_any (is_below q) (standing ls)) (sym split) ∙ none))))

@@ -1,5 +1,5 @@
 -- Where layout `Follow` puts a new header line: it may stand there, and what then stands on the lines is what is put there.
-use Rattle.std.proofs.Common.{◌≡◌, ◌⊎◌, inl, inr, ℕ, ◌+◌, Bool, true, false, ◌&&◌, ◌||◌, Option, Some, None, List, [], ◌∷◌, ◌++◌, map, length, refl, sym, ap, ap₂, ◌∙◌, subst, true≢false, append-nil, append_assoc}
+use Rattle.std.proofs.Common.{◌≡◌, inl, inr, ℕ, ◌+◌, Bool, true, false, ◌&&◌, Option, Some, None, List, [], ◌∷◌, ◌++◌, length, refl, sym, ap, ◌∙◌, subst, true≢false, append-nil, append_assoc}
 use Rattle.std.specs.List.{list_any}
 use Rattle.std.specs.Prelude.{not}
 use Rattle.std.proofs.lemmas.Bool.{and_parts, cond-true, cond-false}
@@ -13,22 +13,22 @@ use Rattle.toml_names.specs.model.Addresses.{Address}
 use Rattle.toml_names.specs.reader.Names.{own_address}
 use Rattle.toml_layout.specs.TreeOutlines.{line_outline}
 use Rattle.toml_layout.specs.declared.tree.Brackets.{Brackets}
-use Rattle.toml_working.specs.FollowingHeaders.{behind_family, behind_last, blank_line, but_last, ends_empty, ends_filled, has_parts, header_behind, header_ws, is_close, is_filled, last_that, or_at_end, or_earlier, put_at_end, wants_blank, ws_of}
+use Rattle.toml_working.specs.FollowingHeaders.{behind_family, behind_last, but_last, ends_empty, ends_filled, has_parts, header_behind, header_ws, is_close, is_filled, last_that, or_at_end, or_earlier, put_at_end, wants_blank, ws_of}
 use Rattle.toml_working.specs.Heading.{Shown, header_expr, header_line, line_at_end, shown}
 use Rattle.toml_working.specs.Headers.{has_no_bytes, new_header, put_at_text_end}
 use Rattle.toml_working.specs.InsertStanding as stood
 use Rattle.toml_working.specs.RenameStanding.{names_in}
-use Rattle.toml_working.specs.Standing.{Standing, is_below, lies_below, line_stands, standing, standing_from}
-use Rattle.toml_working.specs.HeadingFollowed.{blank_at_end, header_at_end, header_line_behind, line_behind_below, line_behind_family, or_header_at_end}
+use Rattle.toml_working.specs.Standing.{Standing, is_below, line_stands, standing, standing_from}
+use Rattle.toml_working.specs.HeadingFollowed.{header_at_end, header_line_behind, line_behind_below, line_behind_family, or_header_at_end}
 use Rattle.toml_editor.proofs.Each.{each_front}
 use Rattle.toml_editor.proofs.written.Counted.{AreLast, last_root}
-use Rattle.toml_editor.proofs.written.FollowedSplit.{Followed, LastThere, NotFollowed, followed}
+use Rattle.toml_editor.proofs.written.FollowedSplit.{Followed, followed}
+use Rattle.toml_editor.proofs.written.HeaderPlace.{lies_is}
 use Rattle.toml_editor.proofs.written.HeaderPut.{IsApart}
 use Rattle.toml_editor.proofs.written.HeaderSplit.{IsHeadlessShown, any_back, at_end, lines_of, stand_of}
 use Rattle.toml_editor.proofs.written.HeaderStood.{counted_behind, parts, shown_lines, shown_outlined, shown_stands}
-use Rattle.toml_editor.proofs.written.HeaderThere.{IsPutThere, apart_at_end, behind_blank, end_put, put_as, put_before, some_line}
+use Rattle.toml_editor.proofs.written.HeaderThere.{IsPlaced, apart_at_end, behind_blank, end_put, put_as, put_before, some_line}
 use Rattle.toml_editor.proofs.written.InsertStands.{has_same}
-use Rattle.toml_editor.proofs.written.TablesStay.{begins_under}
 use Rattle.toml_editor.proofs.written.UnitsRenamed.{each_form}
 
 -- ---- the whitespace of a header line is whitespace
@@ -55,12 +55,7 @@ last_spaced f (s ∷ ss) each = by (last_that f ss) (f s) (last_spaced f ss each
     by None false h = tt
     by (Some t) b h = h
 
--- ---- the last line at the address or below it
-
-lies_is : (f : Address) (own : Option Address) → lies_below f own ≡ true → (a : Address) × (own ≡ Some a) × (rest : Address) × (a ≡ f ++ rest)
-lies_is f None is = absurd (true≢false (sym is))
-lies_is f (Some a) is = let (rest, at) = begins_under f f a is in (a, refl, rest, at)
-
+-- the last line tells whether lines end in one without bytes
 ends_empty_is : (ss : List Standing) (s : Standing) → ends_empty (ss ++ s ∷ []) ≡ has_no_bytes s.outline
 ends_empty_is [] s = refl
 ends_empty_is (t ∷ []) s = refl
@@ -76,7 +71,7 @@ module _ (brackets : Brackets) (p way family : Address) (style : List ℕ) (may 
   new = λ front. header_behind p brackets front style
 
   abbrev IsPut : List Line → List Standing → Type 0
-  IsPut = IsPutThere brackets p style lines
+  IsPut = IsPlaced brackets p style lines
 
   -- the arrays of tables on the way to the last line of the family, or below it, have so many tables behind it as the family says
   reached : (before : List Shown) (line : Shown) (between back : List Shown) → shown lines ≡ before ++ line ∷ (between ++ back) → is_below family line.1 ≡ true
@@ -147,7 +142,8 @@ module _ (brackets : Brackets) (p way family : Address) (style : List ℕ) (may 
         by true due =
             put_as brackets p style lines _ _ _ _ (ap (line_at_end (header_line brackets p ws) style) (cond-true _ _ _ due))
             (ap (put_at_text_end (new_header p brackets ws) style) (cond-true _ _ _ due))
-            (elim (at_end (header_line brackets p ws) (new_header p brackets ws) style (shown lines) (shown_outlined lines (root ∷ []) 0) (some_line brackets p style lines forms)) [
+            (elim (at_end (header_line brackets p ws) (new_header p brackets ws) style (shown lines) (shown_outlined lines (root ∷ []) 0)
+            (some_line brackets p style lines forms)) [
               | inl it ↦
                   behind_blank brackets p style lines ws all it.front it.last it.was it.empty
                   (leads ws lines [] (sym (append-nil lines)) (carry (named lines) last) (apart_at_end brackets p lines))
@@ -186,10 +182,12 @@ module _ (brackets : Brackets) (p way family : Address) (style : List ℕ) (may 
             ∙ ap (λ f. or_at_end p brackets style may (standing lines) (behind_last f new [] (standing lines))) (sym is))
             (elim (followed h new family (shown lines) []) [
               | inl none ↦
-                  let last = none.last (ap (list_any (is_below family)) (shown_stands lines (root ∷ []) 0) ∙ stands (λ no. (let x : ◌≡◌ {A = Address} [] (s ∷ r) = sym no ∙ is in cc))) in
+                  let some : ¬ (family ≡ []) = λ none'. (let x : ◌≡◌ {A = Address} [] (s ∷ r) = sym none' ∙ is in cc) in
+                  let last = none.last (ap (list_any (is_below family)) (shown_stands lines (root ∷ []) 0) ∙ stands some) in
                   put_as brackets p style lines _ _ _ _ (ap (or_header_at_end p brackets style may lines) none.put_none)
                   (ap (or_at_end p brackets style may (standing lines)) (ap (behind_last family new []) (sym (shown_stands lines (root ∷ []) 0)) ∙ none.stand_none))
                   (end (subst (λ ls. AreLast (named ls) family) (ap lines_of (sym last.is) ∙ shown_lines lines (root ∷ []) 0)
-                  (reached last.before last.line last.between [] (last.is ∙ ap (λ x. last.before ++ last.line ∷ x) (sym (append-nil last.between))) last.below last.headless)))
+                  (reached last.before last.line last.between []
+                  (last.is ∙ ap (λ x. last.before ++ last.line ∷ x) (sym (append-nil last.between))) last.below last.headless)))
               | inr it ↦ beside it
             ])

@@ -1,5 +1,5 @@
 -- Where layout `Follow` puts a header line: two parts of the lines, on the lines of a tree and on what stands on them.
-use Rattle.std.proofs.Common.{◌≡◌, ◌⊎◌, inl, inr, ℕ, Bool, true, false, ◌&&◌, ◌||◌, List, [], ◌∷◌, ◌++◌, map, Option, Some, None, refl, sym, ap, ap₂, ◌∙◌, subst, true≢false, append_assoc}
+use Rattle.std.proofs.Common.{◌≡◌, ◌⊎◌, inl, inr, ℕ, Bool, true, false, ◌||◌, List, [], ◌∷◌, ◌++◌, Option, Some, None, refl, sym, ap, ap₂, ◌∙◌, true≢false, append_assoc}
 use Rattle.std.specs.Prelude.{is_some, not, option_map}
 use Rattle.std.proofs.lemmas.Bool.{and_parts, cond-true, cond-false}
 use Rattle.std.specs.List.{list_any}
@@ -85,7 +85,8 @@ module _ (h : List Standing → Line) (new : List Standing → Standing) where
         headless = (pair_headless y.1.base y.1.address (has_pair (stand_of ys)) pairs, none.headless);
       })
       by true pairs b filled (inr it) =
-          let all : (front ++ x.1 ∷ []) ++ y.1 ∷ stand_of it.between ≡ front ++ x.1 ∷ y.1 ∷ stand_of it.between = append_assoc front (x.1 ∷ []) (y.1 ∷ stand_of it.between) in
+          let all : (front ++ x.1 ∷ []) ++ y.1 ∷ stand_of it.between ≡ front ++ x.1 ∷ y.1 ∷ stand_of it.between =
+          append_assoc front (x.1 ∷ []) (y.1 ∷ stand_of it.between) in
           inr (record {
             between = y ∷ it.between;
             back = it.back;
@@ -150,7 +151,8 @@ module _ (h : List Standing → Line) (new : List Standing → Standing) where
       pub last : list_any (is_below f) (stand_of xs) ≡ true → LastThere xs
 
     pub followed : (xs : List Shown) (front : List Standing)
-        → NotFollowed xs (line_behind_below f h front xs) (behind_last f new front (stand_of xs)) ⊎ Followed front xs (line_behind_below f h front xs) (behind_last f new front (stand_of xs))
+        → NotFollowed xs (line_behind_below f h front xs) (behind_last f new front (stand_of xs))
+        ⊎ Followed front xs (line_behind_below f h front xs) (behind_last f new front (stand_of xs))
     followed [] front = inl (record { put_none = refl; stand_none = refl; last = λ is. absurd (true≢false (sym is)) })
     followed (x ∷ xs) front = by (list_any (is_below f) (stand_of xs)) refl (is_below f x.1) refl (followed xs (front ++ x.1 ∷ [])) (in_section xs x front)
       where

@@ -1,11 +1,10 @@
 -- Where layout `Plain` puts a new header line: it may stand there, and what then stands on the lines is what is put there.
-use Rattle.std.proofs.Common.{◌≡◌, ◌⊎◌, inl, inr, ℕ, Bool, true, false, Option, Some, None, List, [], ◌∷◌, ◌++◌, map, refl, sym, ap, ◌∙◌, subst, true≢false, append-nil, append_assoc}
-use Rattle.std.proofs.lemmas.List.{map-append}
+use Rattle.std.proofs.Common.{◌≡◌, inl, inr, ℕ, true, false, Option, Some, None, List, [], ◌∷◌, ◌++◌, length, refl, sym, ap, ◌∙◌, subst, true≢false, append-nil, append_assoc}
 use Rattle.toml_tree.specs.Spells.{AreLines}
 use Rattle.toml_tree.specs.Tree.{Expr, BlankLine, KeyValLine, TableLine, ArrayTableLine, Line}
 use Rattle.toml_names.specs.declared.model.address.Step.TheVariants.{Index}
 use Rattle.toml_names.specs.mentions.Mentions.{Named, count_tables, named, root}
-use Rattle.toml_names.specs.model.Addresses.{Address, IsAbove}
+use Rattle.toml_names.specs.model.Addresses.{Address}
 use Rattle.toml_names.specs.reader.Names.{own_address}
 use Rattle.toml_units.specs.Units.{line_base}
 use Rattle.toml_layout.specs.declared.tree.Brackets.{Brackets}
@@ -14,18 +13,18 @@ use Rattle.toml_working.specs.Headers.{before_next, has_below, innermost, new_he
 use Rattle.toml_working.specs.Inserting.{has_pair}
 use Rattle.toml_working.specs.Placing.{is_header}
 use Rattle.toml_working.specs.Seeing.{heads_below}
-use Rattle.toml_working.specs.Standing.{Standing, line_stands, standing}
+use Rattle.toml_working.specs.Standing.{Standing, lies_below, line_stands, standing, standing_from}
 use Rattle.toml_editor.proofs.written.Counted.{AreLast}
 use Rattle.toml_editor.proofs.written.HeaderPut.{IsApart}
 use Rattle.toml_editor.proofs.written.HeaderSplit.{LastBelow, NextHeader, lines_of, next_header}
 use Rattle.toml_editor.proofs.written.HeaderStood.{counted_behind, index_in, parts, shown_lines, shown_stands}
-use Rattle.toml_editor.proofs.written.HeaderThere.{IsPutThere, end_put, put_as, put_before}
-use Rattle.toml_editor.proofs.written.StandingOrder.{begins_is}
+use Rattle.toml_editor.proofs.written.HeaderThere.{IsPlaced, end_put, put_as, put_before}
+use Rattle.toml_editor.proofs.written.TablesStay.{begins_under}
 
 -- ---- lines by what stands on them
 
 -- no key comes before the next header, where that comes first
-pub header_unkeyed : (xs : List Named) (l : Line) (ls : List Line) → is_header (line_base xs l.expr) (own_address xs l.expr) ≡ true → has_pair (l ∷ ls) ≡ false
+header_unkeyed : (xs : List Named) (l : Line) (ls : List Line) → is_header (line_base xs l.expr) (own_address xs l.expr) ≡ true → has_pair (l ∷ ls) ≡ false
 header_unkeyed xs l ls is = by l.expr is
   where
     by : (e : Expr) → is_header (line_base xs e) (own_address xs e) ≡ true
@@ -35,20 +34,15 @@ header_unkeyed xs l ls is = by l.expr is
     by (TableLine ws header tail) h = refl
     by (ArrayTableLine ws header tail) h = refl
 
--- the address of a header line at the other or below it
-begins_at : (e a : Address) → (a ≡ e) ⊎ IsAbove e a → (rest : Address) × (a ≡ e ++ rest)
-begins_at e a (inl is) = ([], is ∙ sym (append-nil e))
-begins_at e a (inr (s, rest, is)) = (s ∷ rest, is)
+-- the address of a line at the other or below it, and of a header line there
+pub lies_is : (e : Address) (own : Option Address) → lies_below e own ≡ true → (a : Address) × (own ≡ Some a) × (rest : Address) × (a ≡ e ++ rest)
+lies_is e None is = absurd (true≢false (sym is))
+lies_is e (Some a) is = let (rest, at) = begins_under e e a is in (a, refl, rest, at)
 
-pub below_is : (e : Address) (base : Option ℕ) (own : Option Address) → heads_below e base own ≡ true → (a : Address) × (own ≡ Some a) × (rest : Address) × (a ≡ e ++ rest)
+pub below_is : (e : Address) (base : Option ℕ) (own : Option Address) → heads_below e base own ≡ true
+    → (a : Address) × (own ≡ Some a) × (rest : Address) × (a ≡ e ++ rest)
 below_is e (Some n) own is = absurd (true≢false (sym is))
-below_is e None None is = absurd (true≢false (sym is))
-below_is e None (Some a) is =
-    let (rest, at) = begins_at e a (elim (begins_is e a is) [
-      | inl same ↦ inl (sym same)
-      | inr above ↦ inr above
-    ]) in
-    (a, refl, rest, at)
+below_is e None own is = lies_is e own is
 
 module _ (brackets : Brackets) (p way : Address) (style : List ℕ) (lines : List Line) where
   abbrev h : List ℕ → Line
@@ -74,16 +68,17 @@ module _ (brackets : Brackets) (p way : Address) (style : List ℕ) (lines : Lis
       ap (λ xs. count_tables (named (lines_of xs)) r) last.is
       ∙ counted_behind lines last.before last.line last.between back whole last.headless a r (more ++ rest') i own at
 
-  -- its key leads to the address from where the arrays of tables on the way are so reached; one of the element is at the innermost one or below
-  -- it; and for an element it is apart from the lines behind
+  -- The key leads to the address from where the arrays of tables on the way are so reached. A header line stands at the innermost element or below
+  -- it. An element is apart from lines that have neither a key before their first header nor a header at the innermost element or below it.
   module _ (forms : AreLines lines)
-      (leads : (front back : List Line) → lines ≡ front ++ back → IsReached front → IsApart brackets p front back → own_address (named front) (header_expr brackets p []) ≡ Some p)
+      (leads : (front back : List Line) → lines ≡ front ++ back → IsReached front → IsApart brackets p front back
+      → own_address (named front) (header_expr brackets p []) ≡ Some p)
       (headed : (e : Address) → innermost way ≡ Some e → has_below e (standing lines) ≡ true)
-      (apart : (e : Address) → innermost way ≡ Some e → (it : NextHeader (h style) (new style) e (shown lines))
-      → IsApart brackets p (lines_of it.parted.front) (lines_of (it.parted.head ∷ it.parted.rest))) where
+      (apart : (e : Address) → innermost way ≡ Some e → (front back : List Line) → has_pair back ≡ false
+      → has_below e (standing_from (named front) (length front) back) ≡ false → IsApart brackets p front back) where
     -- before the next header line behind those of the element
     next_put : (e : Address) → innermost way ≡ Some e → (it : NextHeader (h style) (new style) e (shown lines))
-        → IsPutThere brackets p style lines (or_line_at_end h style lines (line_before_next e (h style) (shown lines)))
+        → IsPlaced brackets p style lines (or_line_at_end h style lines (line_before_next e (h style) (shown lines)))
         (or_last new style (standing lines) (before_next e (new style) (standing lines)))
     next_put e inner it =
         let parted = it.parted in
@@ -93,19 +88,20 @@ module _ (brackets : Brackets) (p way : Address) (style : List ℕ) (lines : Lis
         let here : line_stands (named front) parted.head.0 ≡ parted.head.1 = (let x = are.back_stands in cc) in
         let unkeyed : has_pair back ≡ false =
         header_unkeyed (named front) parted.head.0 (lines_of parted.rest) (ap (λ (s : Standing). is_header s.base s.address) here ∙ parted.heads) in
-        put_before brackets p style lines [] (λ are'. tt) parted.front (parted.head ∷ parted.rest) parted.was (λ none. cc) unkeyed (apart e inner it)
-        (leads front back are.lines (reached_behind e inner parted.front (parted.head ∷ parted.rest) parted.was it.last) (apart e inner it)) _ _
+        let alone = apart e inner front back unkeyed (ap (has_below e) are.back_stands ∙ it.behind) in
+        put_before brackets p style lines [] (λ are'. tt) parted.front (parted.head ∷ parted.rest) parted.was (λ none. cc) unkeyed alone
+        (leads front back are.lines (reached_behind e inner parted.front (parted.head ∷ parted.rest) parted.was it.last) alone) _ _
         (ap (or_line_at_end h style lines) parted.lines)
         (ap (or_last new style (standing lines)) (ap (before_next e (new style)) (sym (shown_stands lines (root ∷ []) 0)) ∙ parted.stands))
 
-    pub header_put : IsPutThere brackets p style lines (header_lines way brackets p style lines) (put_plainly (innermost way) new style (standing lines))
+    pub header_put : IsPlaced brackets p style lines (header_lines way brackets p style lines) (put_plainly (innermost way) new style (standing lines))
     header_put = by (innermost way) refl
       where
-        end : IsReached lines → IsPutThere brackets p style lines (line_at_end h style lines) (put_at_text_end new style (standing lines))
+        end : IsReached lines → IsPlaced brackets p style lines (line_at_end h style lines) (put_at_text_end new style (standing lines))
         end = end_put brackets p style lines [] (λ are. tt) way forms leads
 
         by : (o : Option Address) → innermost way ≡ o
-            → IsPutThere brackets p style lines (header_lines way brackets p style lines) (put_plainly (innermost way) new style (standing lines))
+            → IsPlaced brackets p style lines (header_lines way brackets p style lines) (put_plainly (innermost way) new style (standing lines))
         by None inner =
             put_as brackets p style lines _ _ _ _ (ap (λ o. line_put_plainly o h style lines) inner) (ap (λ o. put_plainly o new style (standing lines)) inner)
             (end (λ r rest i is. let (e, some', more, split) = index_in r rest i in
@@ -117,6 +113,7 @@ module _ (brackets : Brackets) (p way : Address) (style : List ℕ) (lines : Lis
                   put_as brackets p style lines _ _ _ _ (ap (or_line_at_end h style lines) none.put)
                   (ap (or_last new style (standing lines)) (ap (before_next e (new style)) (sym (shown_stands lines (root ∷ []) 0)) ∙ none.stand))
                   (end (subst IsReached (shown_lines lines (root ∷ []) 0)
-                  (reached_behind e inner (shown lines) [] (sym (append-nil (shown lines))) (none.last (ap (has_below e) (shown_stands lines (root ∷ []) 0) ∙ headed e inner)))))
+                  (reached_behind e inner (shown lines) [] (sym (append-nil (shown lines)))
+                  (none.last (ap (has_below e) (shown_stands lines (root ∷ []) 0) ∙ headed e inner)))))
               | inr it ↦ next_put e inner it
             ])

@@ -27,8 +27,8 @@ use Rattle.toml_working.specs.Placing.{is_header}
 use Rattle.toml_working.specs.Standing.{Standing, line_stands, standing, standing_from}
 use Rattle.toml_editor.proofs.written.Counted.{counts_stay, own_counts}
 use Rattle.toml_editor.proofs.written.CountedAlike.{stand_same, standing_same}
-use Rattle.toml_editor.proofs.written.HeaderCounted.{back_apart, header_counted}
 use Rattle.toml_editor.proofs.written.DocumentSections.{named_next}
+use Rattle.toml_editor.proofs.written.HeaderCounted.{back_apart, header_counted}
 use Rattle.toml_editor.proofs.written.HeaderPut.{IsApart}
 use Rattle.toml_editor.proofs.written.HeaderSplit.{IsHeadlessShown, IsOutlined, lines_of, stand_of}
 use Rattle.toml_editor.proofs.written.InsertPlace.{IsHeadless}
@@ -119,7 +119,8 @@ counted_behind lines before line between back whole none a r rest i own at =
     let owned : own_address (named b) line.0.expr ≡ Some a = ap (λ (x : Standing). x.address) here ∙ own in
     let rest_shown : shown lines ≡ (before ++ line ∷ []) ++ (between ++ back) = whole ∙ sym (append_assoc before (line ∷ []) (between ++ back)) in
     ap (λ ls. count_tables (named ls) r) (map-append (λ (x : Shown). x.0) before (line ∷ between) ∙ sym (append_assoc b (line.0 ∷ []) (lines_of between)))
-    ∙ counts_stay (b ++ line.0 ∷ []) (lines_of between) r (front_headless between back _ _ (parts (before ++ line ∷ []) (between ++ back) lines [] rest_shown).back_stands none)
+    ∙ counts_stay (b ++ line.0 ∷ []) (lines_of between) r
+    (front_headless between back _ _ (parts (before ++ line ∷ []) (between ++ back) lines [] rest_shown).back_stands none)
     ∙ own_counts b line.0 a r rest i owned at
 
 -- ---- the header line
@@ -129,7 +130,8 @@ names_outlined [] = refl
 names_outlined (n ∷ ns) = ap (λ r. bare_part (spelled n) ∷ r) (names_outlined ns)
 
 outlined : (brackets : Brackets) (ws newline : List ℕ) (ns : List (List ℕ))
-    → trees.line_of ws (trees.header_outline (opening_brackets brackets) (closing_brackets brackets) (record { before = fresh []; key = key_named ns; after = fresh [] })) no_blank (fresh newline)
+    → trees.line_of ws (trees.header_outline (opening_brackets brackets) (closing_brackets brackets)
+    (record { before = fresh []; key = key_named ns; after = fresh [] })) no_blank (fresh newline)
     ≡ record { ws = ws; expr = headers.header_of brackets (map spelled ns); tail = []; comment = None; newline = newline }
 outlined brackets ws newline [] = refl
 outlined brackets ws newline (n ∷ ns) =
@@ -146,22 +148,22 @@ pub header_outlined : (brackets : Brackets) (p : Address) (ws newline : List ℕ
 header_outlined One p ws newline = outlined One ws newline (names_of p)
 header_outlined Two p ws newline = outlined Two ws newline (names_of p)
 
--- A header of a table makes no array longer, one of an element its array, at which and below which no line behind stands. So these stand alike.
+-- behind it lines stand as without it
 others_stand : (brackets : Brackets) (p : Address) (front back : List Line) (ws : List ℕ) → own_address (named front) (header_expr brackets p ws) ≡ Some p
     → IsApart brackets p front back → has_pair back ≡ false
-    → standing_from (named front ++ named_by (named front) (length front) (header_expr brackets p ws)) (length front + 1) back ≡ standing_from (named front) (length front) back
+    → standing_from (named front ++ named_by (named front) (length front) (header_expr brackets p ws)) (length front + 1) back
+    ≡ standing_from (named front) (length front) back
 others_stand brackets p front back ws leads apart unkeyed =
     let xs = named front in
-    let n = length front in
-    let ys = xs ++ named_by xs n (header_expr brackets p ws) in
-    sym (standing_same back xs ys n (n + 1)
-    (stand_same back xs ys n (n + 1) (inr unkeyed) (header_counted brackets p ws xs n _ leads (back_apart brackets p front back apart))))
+    let ys = xs ++ named_by xs (length front) (header_expr brackets p ws) in
+    sym (standing_same back xs ys (length front) (length front + 1) (stand_same back xs ys (length front) (length front + 1) (inr unkeyed)
+    (header_counted brackets p ws xs (length front) (standing_from xs (length front) back) leads (back_apart brackets p front back apart))))
 
-base_none : (brackets : Brackets) (p : Address) (ws newline : List ℕ) (xs : List Named) → own_address xs (header_expr brackets p ws) ≡ Some p
+header_stood : (brackets : Brackets) (p : Address) (ws newline : List ℕ) (xs : List Named) → own_address xs (header_expr brackets p ws) ≡ Some p
     → line_stands xs (header_line brackets p ws newline) ≡ new_header p brackets ws newline
-base_none One p ws newline xs leads =
+header_stood One p ws newline xs leads =
     ap₂ (λ (a : Option Address) (o : LineOutline). record { address = a; base = None; outline = o }) leads (header_outlined One p ws newline)
-base_none Two p ws newline xs leads =
+header_stood Two p ws newline xs leads =
     ap₂ (λ (a : Option Address) (o : LineOutline). record { address = a; base = None; outline = o }) leads (header_outlined Two p ws newline)
 
 -- where its key leads to the address, and no key follows before the next header, it stands there, and the others stay
@@ -170,7 +172,7 @@ pub header_stands : (brackets : Brackets) (p : Address) (front back : List Line)
     → standing_from (named front) (length front) (header_line brackets p ws newline ∷ back)
     ≡ new_header p brackets ws newline ∷ standing_from (named front) (length front) back
 header_stands brackets p front back ws newline leads apart unkeyed =
-    ap₂ (λ s t. s ∷ t) (base_none brackets p ws newline (named front) leads) (others_stand brackets p front back ws leads apart unkeyed)
+    ap₂ (λ s t. s ∷ t) (header_stood brackets p ws newline (named front) leads) (others_stand brackets p front back ws leads apart unkeyed)
 
 pub put_stands : (brackets : Brackets) (p : Address) (front back : List Line) (ws newline : List ℕ) → own_address (named front) (header_expr brackets p ws) ≡ Some p
     → IsApart brackets p front back → has_pair back ≡ false

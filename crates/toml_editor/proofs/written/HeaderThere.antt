@@ -1,5 +1,5 @@
 -- A new header line before one of the lines, or at their end: it may stand there, and what then stands on the lines.
-use Rattle.std.proofs.Common.{◌≡◌, ◌⊎◌, inl, inr, ℕ, ◌+◌, ◌==◌, Bool, true, false, ◌&&◌, Option, Some, None, List, [], ◌∷◌, ◌++◌, map, length, refl, sym, ap, ap₂, ◌∙◌, subst, true≢false, append-nil, append_assoc, arith}
+use Rattle.std.proofs.Common.{◌≡◌, inl, inr, ℕ, ◌==◌, true, false, ◌&&◌, Option, Some, None, List, [], ◌∷◌, ◌++◌, length, refl, sym, ap, ap₂, ◌∙◌, subst, true≢false, append-nil, append_assoc, arith}
 use Rattle.std.specs.List.{list_any}
 use Rattle.std.specs.Prelude.{is_some, not, option_map}
 use Rattle.std.proofs.lemmas.Bool.{and_parts, cond-true}
@@ -7,13 +7,13 @@ use Rattle.std.proofs.lemmas.Bool.Decides.{nat_tests}
 use Rattle.std.proofs.lemmas.List.{map-append}
 use Rattle.toml_text.specs.Forms.{IsWs}
 use Rattle.toml_tree.specs.Bare.{fresh}
-use Rattle.toml_tree.specs.Spells.{AreLines, EachIs}
+use Rattle.toml_tree.specs.Spells.{AreLines}
 use Rattle.toml_tree.specs.Tree.{Blank, Piece, Expr, BlankLine, KeyValLine, TableLine, ArrayTableLine, Line}
 use Rattle.toml_names.specs.mentions.Mentions.{Named, count_tables, named, root}
 use Rattle.toml_names.specs.model.Addresses.{Address}
 use Rattle.toml_names.specs.reader.Names.{own_address}
 use Rattle.toml_units.specs.Units.{line_base}
-use Rattle.toml_layout.specs.Outlines.{LineOutline, Nothing}
+use Rattle.toml_layout.specs.Outlines.{Nothing}
 use Rattle.toml_layout.specs.TreeOutlines.{line_of, line_outline}
 use Rattle.toml_layout.specs.declared.tree.Brackets.{Brackets}
 use Rattle.toml_layout.specs.declared.tree.Brackets.TheVariants.{One, Two}
@@ -72,8 +72,8 @@ empty_stands xs l newline is = by l.expr is
         → line_stands xs (record { expr = e; newline = newline }) ≡ blank_line newline.text
     by (BlankLine b) h =
         let none = no_parts b l.newline h in
-        ap₂ (λ (t : List ℕ) (c : Option (List ℕ)). record { address = None; base = None; outline = record { ws = []; expr = Nothing; tail = t; comment = c; newline = newline.text } })
-        none.0 none.1
+        ap₂ (λ (t : List ℕ) (c : Option (List ℕ)).
+        record { address = None; base = None; outline = record { ws = []; expr = Nothing; tail = t; comment = c; newline = newline.text } }) none.0 none.1
     by (KeyValLine ws pair tail) h = absurd (true≢false (sym h))
     by (TableLine ws header tail) h = absurd (true≢false (sym h))
     by (ArrayTableLine ws header tail) h = absurd (true≢false (sym h))
@@ -125,12 +125,12 @@ apart_before_empty Two p front l is = λ q i at. ap (λ s. list_any (is_below q)
 
 module _ (brackets : Brackets) (p : Address) (style : List ℕ) (lines : List Line) where
   -- the lines with it, and what stands on them
-  pub record IsPutThere (put : List Line) (stand : List Standing) : Type 0 where
+  pub record IsPlaced (put : List Line) (stand : List Standing) : Type 0 where
     pub header : IsHeaderPut brackets p style lines put
     pub stands : standing put ≡ stand
 
-  pub put_as : (put put' : List Line) (stand stand' : List Standing) → put' ≡ put → stand' ≡ stand → IsPutThere put stand → IsPutThere put' stand'
-  put_as put put' stand stand' e f it = subst (λ x. IsPutThere x stand') (sym e) (subst (IsPutThere put) (sym f) it)
+  pub put_as : (put put' : List Line) (stand stand' : List Standing) → put' ≡ put → stand' ≡ stand → IsPlaced put stand → IsPlaced put' stand'
+  put_as put put' stand stand' e f it = subst (λ x. IsPlaced x stand') (sym e) (subst (IsPlaced put) (sym f) it)
 
   pub some_line : AreLines lines → ¬ (shown lines ≡ [])
   some_line forms none = no_lines lines forms (sym (shown_lines lines (root ∷ []) 0) ∙ ap lines_of none)
@@ -153,7 +153,7 @@ module _ (brackets : Brackets) (p : Address) (style : List ℕ) (lines : List Li
     -- before one of the lines, where no key comes before the next header
     pub put_before : (front back : List Shown) → shown lines ≡ front ++ back → ¬ (lines_of back ≡ []) → has_pair (lines_of back) ≡ false
         → IsApart brackets p (lines_of front) (lines_of back) → Leads (lines_of front) → (put : List Line) (stand : List Standing)
-        → put ≡ lines_of front ++ h style ∷ lines_of back → stand ≡ stand_of front ++ new style ∷ stand_of back → IsPutThere put stand
+        → put ≡ lines_of front ++ h style ∷ lines_of back → stand ≡ stand_of front ++ new style ∷ stand_of back → IsPlaced put stand
     put_before front back was some unkeyed apart leads put stand is stands =
         let are = parts front back lines [] was in
         record {
@@ -174,7 +174,7 @@ module _ (brackets : Brackets) (p : Address) (style : List ℕ) (lines : List Li
 
     -- before a last line without bytes
     before_empty : (it : BeforeEmpty h new style (shown lines)) → Leads (lines_of it.front)
-        → IsPutThere (line_at_end h style lines) (put_at_text_end new style (standing lines))
+        → IsPlaced (line_at_end h style lines) (put_at_text_end new style (standing lines))
     before_empty it leads =
         put_before it.front (it.last ∷ []) it.was (λ none. cc) (no_bytes it.last.0 it.empty).1
         (apart_before_empty brackets p (lines_of it.front) it.last.0 it.empty) leads _ _
@@ -183,7 +183,7 @@ module _ (brackets : Brackets) (p : Address) (style : List ℕ) (lines : List Li
 
     -- behind the last line
     behind_last : AreLines lines → (it : BehindLast h new style (shown lines)) → Leads (lines_of it.front ++ it.last.0 ∷ [])
-        → IsPutThere (line_at_end h style lines) (put_at_text_end new style (standing lines))
+        → IsPlaced (line_at_end h style lines) (put_at_text_end new style (standing lines))
     behind_last forms it leads =
         let before = lines_of it.front in
         let last = it.last.0 in
@@ -196,7 +196,8 @@ module _ (brackets : Brackets) (p : Address) (style : List ℕ) (lines : List Li
         ap (line_at_end h style) (sym (shown_lines lines (root ∷ []) 0)) ∙ it.lines ∙ ap (λ t. before ++ line_behind_last h style last t) opened in
         let here : line_stands (named before) last ≡ it.last.1 = (let x = are.back_stands in cc) in
         let ends : line_stands (named before) (ended style last) ≡ end_in style it.last.1 =
-        ap (λ o. record { address = own_address (named before) last.expr; base = line_base (named before) last.expr; outline = o }) (ends_same last.expr last.newline (ended style last).newline)
+        ap (λ o. record { address = own_address (named before) last.expr; base = line_base (named before) last.expr; outline = o })
+        (ends_same last.expr last.newline (ended style last).newline)
         ∙ ap (end_in style) here in
         record {
           header = record {
@@ -214,12 +215,13 @@ module _ (brackets : Brackets) (p : Address) (style : List ℕ) (lines : List Li
               ∙ put_stands brackets p closed [] ws [] leads_closed (apart_at_end brackets p closed) refl
               ∙ ap (λ s. s ++ new [] ∷ []) (stand_append before (ended style last ∷ []) [] ∙ ap₂ (λ a b. a ++ b ∷ []) are.front_stands ends)
               ∙ append_assoc (stand_of it.front) (end_in style it.last.1 ∷ []) (new [] ∷ [])
-              ∙ sym (ap (put_at_text_end new style) (sym (shown_stands lines (root ∷ []) 0)) ∙ it.stands ∙ ap (λ t. stand_of it.front ++ put_after new style it.last.1 t) opened);
+              ∙ sym (ap (put_at_text_end new style) (sym (shown_stands lines (root ∷ []) 0)) ∙ it.stands
+              ∙ ap (λ t. stand_of it.front ++ put_after new style it.last.1 t) opened);
         }
 
     -- behind the last line, which has no bytes and becomes a blank one
     pub behind_blank : (front : List Shown) (last : Shown) → shown lines ≡ front ++ last ∷ [] → has_no_bytes (line_outline last.0) ≡ true → Leads lines
-        → IsPutThere (line_at_end h style (blank_at_end style lines)) (put_at_text_end new style (put_at_text_end blank_line style (standing lines)))
+        → IsPlaced (line_at_end h style (blank_at_end style lines)) (put_at_text_end new style (put_at_text_end blank_line style (standing lines)))
     behind_blank front (last, s) was empty leads =
         let before = lines_of front in
         let are = parts front ((last, s) ∷ []) lines [] was in
@@ -228,7 +230,8 @@ module _ (brackets : Brackets) (p : Address) (style : List ℕ) (lines : List Li
         let leads_front : Leads (before ++ last ∷ []) = subst Leads are.lines leads in
         let leads_closed : Leads closed = ap (λ ms. own_address ms (header_expr brackets p ws)) names ∙ leads_front in
         let is : line_at_end h style (blank_at_end style lines) ≡ before ++ ended style last ∷ h style ∷ empty_line ∷ [] =
-        ap (line_at_end h style) (ap (blank_at_end style) are.lines ∙ blank_behind style before last ∙ sym (append_assoc before (ended style last ∷ []) (empty_line ∷ [])))
+        ap (line_at_end h style)
+        (ap (blank_at_end style) are.lines ∙ blank_behind style before last ∙ sym (append_assoc before (ended style last ∷ []) (empty_line ∷ [])))
         ∙ line_before_empty h style closed empty_line refl ∙ append_assoc before (ended style last ∷ []) (h style ∷ empty_line ∷ []) in
         let here : line_stands (named before) last ≡ s = (let x = are.back_stands in cc) in
         let stood : standing lines ≡ stand_of front ++ blank_line [] ∷ [] =
@@ -236,7 +239,8 @@ module _ (brackets : Brackets) (p : Address) (style : List ℕ) (lines : List Li
         ∙ ap (λ x. stand_of front ++ x ∷ []) (sym here ∙ empty_stands (named before) last last.newline empty ∙ ap blank_line (empty_newline last empty)) in
         let put : put_at_text_end new style (put_at_text_end blank_line style (standing lines)) ≡ stand_of front ++ blank_line style ∷ new style ∷ blank_line [] ∷ [] =
         ap (λ x. put_at_text_end new style (put_at_text_end blank_line style x)) stood
-        ∙ ap (put_at_text_end new style) (put_before_empty blank_line style (stand_of front) (blank_line []) refl ∙ sym (append_assoc (stand_of front) (blank_line style ∷ []) (blank_line [] ∷ [])))
+        ∙ ap (put_at_text_end new style)
+        (put_before_empty blank_line style (stand_of front) (blank_line []) refl ∙ sym (append_assoc (stand_of front) (blank_line style ∷ []) (blank_line [] ∷ [])))
         ∙ put_before_empty new style (stand_of front ++ blank_line style ∷ []) (blank_line []) refl
         ∙ append_assoc (stand_of front) (blank_line style ∷ []) (new style ∷ blank_line [] ∷ []) in
         record {
@@ -261,13 +265,14 @@ module _ (brackets : Brackets) (p : Address) (style : List ℕ) (lines : List Li
     -- at the end, where it leads to the address, if each index on the way is that of the last table of its array
     pub end_put : (way : Address) → AreLines lines
         → ((front back : List Line) → lines ≡ front ++ back → AreLast (named front) way → IsApart brackets p front back → Leads front) → AreLast (named lines) way
-        → IsPutThere (line_at_end h style lines) (put_at_text_end new style (standing lines))
+        → IsPlaced (line_at_end h style lines) (put_at_text_end new style (standing lines))
     end_put way forms leads last = elim (at_end h new style (shown lines) (shown_outlined lines (root ∷ []) 0) (some_line forms)) [
       | inl it ↦
           let front = lines_of it.front in
           let are = parts it.front (it.last ∷ []) lines [] it.was in
           before_empty it (leads front (it.last.0 ∷ []) are.lines
-          (λ r rest i is. sym (counts_stay front (it.last.0 ∷ []) r ((no_bytes it.last.0 it.empty).0, tt)) ∙ ap (λ ls. count_tables (named ls) r) (sym are.lines) ∙ last r rest i is)
+          (λ r rest i is.
+          sym (counts_stay front (it.last.0 ∷ []) r ((no_bytes it.last.0 it.empty).0, tt)) ∙ ap (λ ls. count_tables (named ls) r) (sym are.lines) ∙ last r rest i is)
           (apart_before_empty brackets p front it.last.0 it.empty))
       | inr it ↦
           let front = lines_of it.front ++ it.last.0 ∷ [] in

@@ -1,5 +1,5 @@
 -- What a section without a fault tells of the data, and where its header line goes.
-use Rattle.std.proofs.Common.{◌≡◌, ◌⊎◌, ℕ, ◌<◌, ◌≤◌, Option, Some, None, IsSome, List, [], ◌∷◌, length, refl, sym, subst, ◌∙◌}
+use Rattle.std.proofs.Common.{◌≡◌, ◌⊎◌, ℕ, ◌<◌, ◌≤◌, Option, Some, None, IsSome, List, [], length, refl, sym, subst, ◌∙◌}
 use Rattle.toml_tree.specs.Spells.{AreLines}
 use Rattle.toml_tree.specs.Tree.{Line}
 use Rattle.toml_tree.specs.declared.profile.Profile.{Profile}
@@ -20,7 +20,7 @@ use Rattle.toml_editor.proofs.written.ElementHeaded.{element_headed}
 use Rattle.toml_editor.proofs.written.Fitting.{at_most}
 use Rattle.toml_editor.proofs.written.HeaderLeads.{leads}
 use Rattle.toml_editor.proofs.written.HeaderPlace.{header_put}
-use Rattle.toml_editor.proofs.written.HeaderThere.{IsPutThere}
+use Rattle.toml_editor.proofs.written.HeaderThere.{IsPlaced}
 
 -- a table stands at the address, nothing does at the name in it, and that is short enough
 pub record IsRoom (q : Address) (name : List ℕ) (kinds : Kinds) : Type 0 where
@@ -55,7 +55,8 @@ pub record IsNextElement (q : Address) (i : ℕ) (kinds : Kinds) : Type 0 where
 -- by layout `Plain` the header line goes where it may stand
 pub section_goes : (q : Address) (name style : List ℕ) (lines : List Line) (kinds : Kinds) → AreLines lines → KeepsRules (named lines) → IsDataOf (named lines) kinds
     → IsRoom q name kinds → IsInNoValue lines q
-    → IsPutThere One (child q name) style lines (header_lines q One (child q name) style lines) (put_plainly (innermost q) (new_header (child q name) One []) style (standing lines))
+    → IsPlaced One (child q name) style lines (header_lines q One (child q name) style lines)
+    (put_plainly (innermost q) (new_header (child q name) One []) style (standing lines))
 section_goes q name style lines kinds forms keeps facts room outside =
     header_put One (child q name) q style lines forms (λ front back split reached apart. leads lines front back q name [] kinds split keeps facts room.table reached)
-    (element_headed lines q kinds keeps facts room.table outside) (λ e inner it. tt)
+    (element_headed lines q kinds keeps facts room.table outside) (λ e inner front back unkeyed unheaded. tt)

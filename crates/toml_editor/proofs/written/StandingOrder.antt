@@ -43,7 +43,7 @@ begins_is (s ∷ a) (t ∷ b) is = by (same_step s t) refl is (λ h. begins_is a
 -- ---- what a line is named by
 
 -- the line's own mention, which is a value's where it has a key
-abbrev pub Own : Option ℕ → Address → Named → Type 0
+abbrev Own : Option ℕ → Address → Named → Type 0
 Own base a m = (m.address ≡ a) × (¬ (base ≡ None) → is_lone m.role ≡ true)
 
 end_named : (ns : Key) (n : List ℕ) (line : ℕ) (xs : List Named) (e : Address → List Named) (at : Address) (P : Named → Type 0)
@@ -51,7 +51,7 @@ end_named : (ns : Key) (n : List ℕ) (line : ℕ) (xs : List Named) (e : Addres
 end_named [] n line xs e at P h = h
 end_named (m ∷ ns) n line xs e at P h = inr (end_named ns m line xs e (entered xs (child at n)) P h)
 
-pub own_named : (xs : List Named) (n : ℕ) (e : Expr) (a : Address) → own_address xs e ≡ Some a → Has (Own (line_base xs e) a) (named_by xs n e)
+own_named : (xs : List Named) (n : ℕ) (e : Expr) (a : Address) → own_address xs e ≡ Some a → Has (Own (line_base xs e) a) (named_by xs n e)
 own_named xs n (BlankLine b) a is = cc
 own_named xs n (KeyValLine ws pair tail) a is =
     let to = below (section xs) (key_names pair.assign.key) in
