@@ -1,5 +1,5 @@
 -- The working tree after a plain edit stands for the text that the edit writes.
-use Rattle.std.proofs.Common.{◌≡◌, ℕ, Bool, true, List, [], ◌∷◌, ◌++◌, None, refl, sym, subst, ◌∙◌, subst₂}
+use Rattle.std.proofs.Common.{◌≡◌, ℕ, Bool, true, List, [], ◌∷◌, ◌++◌, None, refl, sym, ap, subst, ◌∙◌, subst₂}
 use Rattle.toml_text.specs.Forms.{IsNewline}
 use Rattle.toml_text.specs.Source.{text_of}
 use Rattle.toml_tree.specs.Bare.{bare_lines}

@@ -1,11 +1,12 @@
 -- Where the text of lines ends in a newline, the last of their units that is a line has no bytes.
 use Rattle.std.proofs.Common.{◌≡◌, inl, inr, ◌<◌, ◌+◌, ℕ, Bool, true, false, Option, Some, None, List, [], ◌∷◌, ◌++◌, map, length, refl, sym, ap, ap₂, ◌∙◌, subst, true≢false, arith, append-nil}
+use Rattle.std.specs.Prelude.{is_some}
 use Rattle.toml_tree.specs.Spells.{AreLines, IsExpr, expr_parts, joined, lines_parts}
 use Rattle.toml_tree.specs.Tree.{Blank, Expr, BlankLine, KeyValLine, TableLine, ArrayTableLine, Line, Piece}
 use Rattle.toml_names.specs.mentions.Mentions.{Named, named_by, root}
 use Rattle.toml_units.specs.Bares.{bare_unit}
 use Rattle.toml_units.specs.declared.unit.UnitKind.TheVariants as kinds
-use Rattle.toml_units.specs.Units.{TextUnit, comment_units, line_units, units, units_from}
+use Rattle.toml_units.specs.Units.{TextUnit, comment_units, inside_line, line_unit, line_units, units, units_from}
 use Rattle.toml_working.specs.FollowingHeaders.{ends_in_newline}
 use Rattle.toml_editor.proofs.written.EndsBare.{ends_bare}
 use Rattle.toml_editor.proofs.written.InsertSpaced.{line_formed}
@@ -57,18 +58,21 @@ bare_line : (xs : List Named) (e : Expr) → IsExpr e → joined (expr_parts e) 
 bare_line xs (KeyValLine ws k b) form none = let some = pair_long ws k b in let zero = ap length none in let e : ⊥ = omega (arith, some, zero) in absurd e
 bare_line xs (TableLine ws h b) form none = let some = table_long ws h b in let zero = ap length none in let e : ⊥ = omega (arith, some, zero) in absurd e
 bare_line xs (ArrayTableLine ws h b) form none = let some = array_long ws h b in let zero = ap length none in let e : ⊥ = omega (arith, some, zero) in absurd e
-bare_line xs (BlankLine (record { ws = ws; comment = Some p })) form none =
-    let some = comment_long ws.text (Some p) refl form.1 in let zero = ap length none in let e : ⊥ = omega (arith, some, zero) in absurd e
-bare_line xs (BlankLine (record { ws = ws; comment = None })) form none = record {
-  front = [];
-  last = record { kind = kinds.Line; piece = record { start = ws.start; text = joined (expr_parts (BlankLine (record { ws = ws; comment = None }))) }; address = None; base = None };
-  back = [];
-  is = refl;
-  line = refl;
-  bare = none;
-  nowhere = refl;
-  none = refl;
-}
+bare_line xs (BlankLine b) form none = by b.comment refl
+  where
+    by : (o : Option Piece) → b.comment ≡ o → LastIsBare (line_units xs (BlankLine b))
+    by (Some p) is =
+        let some = comment_long b.ws.text b.comment (ap is_some is) form.1 in let zero = ap length none in let e : ⊥ = omega (arith, some, zero) in absurd e
+    by None is = record {
+      front = [];
+      last = line_unit xs (BlankLine b);
+      back = inside_line None (BlankLine b);
+      is = refl;
+      line = refl;
+      bare = none;
+      nowhere = refl;
+      none = ap (λ o. lines_in (comment_units kinds.TailComment None o)) is;
+    }
 
 last_of : (front : List Line) (l : Line) (xs : List Named) (n : ℕ) → IsExpr l.expr → joined (expr_parts l.expr) ≡ [] → LastIsBare (units_from xs n (front ++ l ∷ []))
 last_of [] l xs n form none = subst LastIsBare (sym (append-nil (line_units xs l.expr))) (bare_line xs l.expr form none)

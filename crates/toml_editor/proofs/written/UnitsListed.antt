@@ -212,8 +212,8 @@ sure_of b false is c s stays = all_sure (b ≡ false) is c s
 one_stays : (Firm Later : Type 0) → Firm → (c : Change) (ts : List (List ℕ)) (lines edited : List Line) (way : HasWayIf Firm (c ∷ []) (ts ∷ []) lines edited)
     → LastIsBare (units lines) → IsSure Later c way.way × LastIsBare (units edited)
 one_stays Firm Later firm c ts lines edited way bare =
-    let old_count : 0 + lines_in (olds way.way) ≡ length (newlines lines) = ap lines_in way.olds_are ∙ count_lines lines (root ∷ []) 0 in
-    let new_count : 0 + lines_in (news way.way) ≡ length (newlines edited) = ap lines_in way.news_are ∙ count_lines edited (root ∷ []) 0 in
+    let old_count : 0 + lines_in (olds way.way) ≡ length (newlines lines) = (let e = ap lines_in way.olds_are in let n = count_lines lines (root ∷ []) 0 in omega (arith, e, n)) in
+    let new_count : 0 + lines_in (news way.way) ≡ length (newlines edited) = (let e = ap lines_in way.news_are in let n = count_lines edited (root ∷ []) 0 in omega (arith, e, n)) in
     let it = last_stays Firm Later firm c (ts ∷ []) (newlines lines) (newlines edited) way.way None None 0 0 way.fits way.keeps (subst LastIsBare (sym way.olds_are) bare)
     old_count new_count in
     (it.sure, subst LastIsBare way.news_are it.bare)
