@@ -16,13 +16,12 @@ use Rattle.toml_names.specs.declared.fault.NameFault.{NameFault}
 use Rattle.toml_names.specs.declared.fault.NameFault.TheVariants as names
 use Rattle.toml_names.specs.model.Data.{Kinds, IsDataOf}
 use Rattle.toml_names.specs.model.Documents.{IsDocumentIn}
-use Rattle.toml_names.specs.model.Places.{place}
 use Rattle.toml_names.specs.mentions.Mentions.{named}
 use Rattle.toml_names.specs.declared.fault.ReadFault.TheVariants as reads
 use Rattle.toml_names.specs.reader.Texts as texts
 use Rattle.toml_names.proofs.Proved.{refused_text}
 use Rattle.toml_edits.specs.Edits.{Change}
-use Rattle.toml_editor.specs.PlainTexts.{IsNeitherPlainNorHeld, NoSpreadSet}
+use Rattle.toml_editor.specs.PlainTexts.{IsNeitherPlainNorHeld, NoneIsSpread}
 use Rattle.toml_editor.specs.Edited.{RefusesText, TellsWith}
 use Rattle.toml_editor.specs.Exact.{OfNoPlaceAt, OfNumber}
 use Rattle.toml_layout.specs.declared.layout.Layout.{Layout}
@@ -31,6 +30,7 @@ use Rattle.toml_editor.specs.declared.fault.EditorFault.{EditorFault}
 use Rattle.toml_editor.specs.declared.fault.EditorFault.TheVariants as faults
 use Rattle.toml_editor.specs.Faults.{of_syntax, of_names}
 use Rattle.toml_editor.specs.declared.fault.EditorFault.TheVariants.{Text}
+use Rattle.toml_editor.proofs.SpreadTold.{spread_told}
 
 -- ---- refusals
 
@@ -63,11 +63,11 @@ names_told profile text names.NoMemory is h = tt
 
 -- what is told of the data of a text is told of the text
 pub any_tells : (layout : Layout) (profile : Profile) (before : List ℕ) (cs : List Change) (d : Doc) (old : Kinds) (fault : EditorFault) → IsDocumentIn profile before
-    → Spells d before → IsDataOf (named d.lines) old → TellsAny profile (place (named d.lines)) cs old fault
-    → OfNumber (NoSpreadSet layout profile before cs) fault → OfNoPlaceAt (IsNeitherPlainNorHeld layout profile before cs) fault → TellsWith layout profile before cs fault
+    → Spells d before → IsDataOf (named d.lines) old → TellsAny profile cs old fault
+    → OfNumber (NoneIsSpread layout profile before cs) fault → OfNoPlaceAt (IsNeitherPlainNorHeld layout profile before cs) fault → TellsWith layout profile before cs fault
 any_tells layout profile before cs d old (faults.Edit i f) document spelled facts h passed not = (document, (d, spelled, old, facts, h), passed)
 any_tells layout profile before cs d old (faults.Spread i) document spelled facts h passed not =
-    (document, (d, spelled, (d, spelled, old, facts, h)), not, passed)
+    (document, (d, spelled, (d, spelled, old, facts, spread_told layout profile before cs d old document spelled facts i h not)), not, passed)
 any_tells layout profile before cs d old (faults.LastElement i) document spelled facts h passed not = (document, (d, spelled, old, facts, h), not, passed)
 any_tells layout profile before cs d old faults.NoMemory document spelled facts h passed not = tt
 any_tells layout profile before cs d old (faults.Text f) document spelled facts h passed not = absurd h

@@ -4,6 +4,8 @@ pub mod MakesExact
 pub mod PlainMade
 pub mod OneChanged
 pub mod PassedSpread
+mod HeaderData
+mod SpreadTold
 pub mod Judgements
 pub mod PlainAnswers
 mod PlainJudged

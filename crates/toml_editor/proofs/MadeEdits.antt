@@ -17,11 +17,10 @@ use Rattle.toml_names.specs.model.Addresses.{Address}
 use Rattle.toml_working.specs.Starting.{read_of}
 use Rattle.toml_working.specs.declared.working.Tree.{Tree}
 use Rattle.toml_editor.specs.Exact.{DoneOne}
-use Rattle.toml_editor.specs.Made.{MakesEdit, RefusesEdit, places_in}
+use Rattle.toml_editor.specs.Made.{MakesEdit, RefusesEdit}
 use Rattle.toml_editor.specs.declared.making.Read.{Read}
-use Rattle.toml_editor.specs.Edited.{SoFar, OfDefined, MayBeSpread, TakesLastElement}
-use Rattle.toml_working.specs.InValues.{Places}
-use Rattle.toml_editor.specs.Making.{IsMade, TellsOne, TellsAny}
+use Rattle.toml_editor.specs.Edited.{SoFar, OfDefined, TakesLastElement}
+use Rattle.toml_editor.specs.Making.{IsMade, MayLackPlace, TellsOne, TellsAny}
 use Rattle.toml_editor.specs.declared.fault.EditorFault.{EditorFault}
 use Rattle.toml_editor.specs.declared.fault.EditorFault.TheVariants as faults
 
@@ -57,16 +56,16 @@ so_far : (profile : Profile) (es : List Given) (i j : ℕ) (e : Given) (old mid 
 so_far profile es i j e old mid P low is lead same p =
     subst (λ n. SoFar profile (map change es) old n P) (sym same) (mid, subst (λ cs. Lead profile cs old mid) (sym (take_map i es)) lead, change e, get_map es i e low is, p)
 
-pub any_of_one : (profile : Profile) (places : Places) (es : List Given) (i : ℕ) (e : Given) (old mid : Kinds) (fault : EditorFault) → i < length es → e ≡ get_or es i e → Lead profile (map change (take i es)) old mid → TellsOne profile places i (change e) mid fault → TellsAny profile places (map change es) old fault
-any_of_one profile places es i e old mid (faults.Edit j f) low is lead h = so_far profile es i j e old mid (λ c kinds. IsFault profile c kinds (Some f)) low is lead h.0 h.1
-any_of_one profile places es i e old mid (faults.Spread j) low is lead h = so_far profile es i j e old mid (OfDefined profile (MayBeSpread places j)) low is lead h.0 h.1
-any_of_one profile places es i e old mid (faults.LastElement j) low is lead h = so_far profile es i j e old mid (OfDefined profile TakesLastElement) low is lead h.0 h.1
-any_of_one profile places es i e old mid faults.NoMemory low is lead h = tt
-any_of_one profile places es i e old mid (faults.Text f) low is lead h = absurd h
-any_of_one profile places es i e old mid (faults.Syntax f) low is lead h = absurd h
-any_of_one profile places es i e old mid (faults.Names f) low is lead h = absurd h
-any_of_one profile places es i e old mid faults.TooLong low is lead h = absurd h
-any_of_one profile places es i e old mid (faults.Unverified r) low is lead h = absurd h
+pub any_of_one : (profile : Profile) (es : List Given) (i : ℕ) (e : Given) (old mid : Kinds) (fault : EditorFault) → i < length es → e ≡ get_or es i e → Lead profile (map change (take i es)) old mid → TellsOne profile i (change e) mid fault → TellsAny profile (map change es) old fault
+any_of_one profile es i e old mid (faults.Edit j f) low is lead h = so_far profile es i j e old mid (λ c kinds. IsFault profile c kinds (Some f)) low is lead h.0 h.1
+any_of_one profile es i e old mid (faults.Spread j) low is lead h = so_far profile es i j e old mid (OfDefined profile MayLackPlace) low is lead h.0 h.1
+any_of_one profile es i e old mid (faults.LastElement j) low is lead h = so_far profile es i j e old mid (OfDefined profile TakesLastElement) low is lead h.0 h.1
+any_of_one profile es i e old mid faults.NoMemory low is lead h = tt
+any_of_one profile es i e old mid (faults.Text f) low is lead h = absurd h
+any_of_one profile es i e old mid (faults.Syntax f) low is lead h = absurd h
+any_of_one profile es i e old mid (faults.Names f) low is lead h = absurd h
+any_of_one profile es i e old mid faults.TooLong low is lead h = absurd h
+any_of_one profile es i e old mid (faults.Unverified r) low is lead h = absurd h
 
 -- ---- data that were turned to an edit are the same
 
@@ -80,6 +79,6 @@ turned_made read c old mid new before after same made = record {
 pub turned_told : (read : Read) (i : ℕ) (c : Change) (old mid : Draft) (tree : Tree) (fault : EditorFault) → ((at : Address) → drafted mid at ≡ drafted old at) → RefusesEdit read i c mid tree fault
     → RefusesEdit read i c old tree fault
 turned_told read i c old mid tree fault same refuses = record {
-  told = subst (λ k. TellsOne read.profile (places_in read) i c k fault) (fun_ext same) refuses.told;
+  told = subst (λ k. TellsOne read.profile i c k fault) (fun_ext same) refuses.told;
   neither = refuses.neither;
 }

@@ -22,12 +22,11 @@ use Rattle.toml_editor.specs.declared.fault.EditorFault.{EditorFault}
 use Rattle.toml_editor.specs.declared.fault.EditorFault.TheVariants as faults
 use Rattle.toml_working.specs.declared.working.Tree.{Tree}
 use Rattle.toml_editor.specs.CertifiedLists.{ArePlain}
-use Rattle.toml_editor.specs.Edited.{MayBeSpread, TakesLastElement}
-use Rattle.toml_working.specs.InValues.{Places}
+use Rattle.toml_editor.specs.Edited.{TakesLastElement}
 use Rattle.toml_editor.specs.LastTexts.{ChangesLines, IsInContainer, IsPutThere}
-use Rattle.toml_editor.specs.Exact.{Follows, HoldsOne, IsAt, IsOnePlace, IsSpreadOn, IsNeitherAt, IsNeitherOn, HoldsLast, MakesAll, MakesOne, OfPlain, OfNoPlaceAt, PassesAll, PassesAt, PassesOne, Stops, WritesEdit}
+use Rattle.toml_editor.specs.Exact.{Follows, HoldsOne, IsAt, IsSpreadOn, IsNeitherAt, IsNeitherOn, HoldsLast, MakesAll, MakesOne, OfPlain, OfNoPlaceAt, PassesAll, PassesAt, PassesOne, Stops, WritesEdit}
 use Rattle.toml_working.specs.Putting.{manner}
-use Rattle.toml_editor.specs.Making.{TellsOne}
+use Rattle.toml_editor.specs.Making.{MayLackPlace, TellsOne}
 use Rattle.toml_editor.specs.PlainTexts.{HasContainerFor, IsPlainOrHeld, IsPlainOn}
 use Rattle.toml_text.specs.Source.{text_of}
 use Rattle.toml_layout.specs.declared.texts.Texts.{Texts}
@@ -42,7 +41,7 @@ use Rattle.toml_editor.proofs.written.Follow.{remove_follows, set_follows, set_i
 use Rattle.toml_editor.proofs.written.InsertFollow.{insert_follows}
 use Rattle.toml_editor.proofs.written.RemoveNamed.{line_parts}
 use Rattle.toml_editor.proofs.written.RenameFollow.{rename_follows}
-use Rattle.toml_editor.proofs.written.HeaderFollow.{element_follows, section_follows}
+use Rattle.toml_editor.proofs.written.HeaderFollow.{element_follows, element_refused, section_follows, section_refused}
 use Rattle.toml_editor.proofs.written.StandingOrder.{rules_order}
 use Rattle.toml_editor.proofs.written.Steps.{one_list_written}
 use Rattle.toml_working.specs.Manners.{Manner}
@@ -83,14 +82,14 @@ put_there : (q : Address) (last : Step) (lines : List Line) → IsPutThere lines
 put_there q (Index i) lines there = there
 put_there q (Name n) lines held = parent_held q (Name n) (standing lines) held
 
-put_is_made : (near : Kinds) (p : Address) (value : List ℕ) (lines : List Line) (done : Bool) → (done ≡ true) ⊎ IsOnePlace (insert p value) near
+put_is_made : (near : Kinds) (p : Address) (value : List ℕ) (lines : List Line) (done : Bool) → (done ≡ true) ⊎ (¬ MayLackPlace (insert p value) near)
     → done ≡ list_any (has_container_at p) (standing lines) → (q : Address) (last : Step) → p ≡ q ++ last ∷ [] → IsPutThere lines q last → done ≡ true
 put_is_made near p value lines done (inl made) told q last is there = made
-put_is_made near p value lines done (inr one) told q (Index i) is there = absurd (one q i is)
+put_is_made near p value lines done (inr one) told q (Index i) is there = absurd (one (q, i, is))
 put_is_made near p value lines done (inr one) told q (Name n) is there = told ∙ ap (λ a. list_any (has_container_at a) (standing lines)) is ∙ there
 
 pub holds_one : (profile : Profile) (read : Read) (near : Kinds) (c : Change) (old new : Tree) (done : Bool) → WritesEdit profile read c old new done
-    → (done ≡ true) ⊎ IsOnePlace c near → HoldsOne profile read c old new
+    → (done ≡ true) ⊎ (¬ MayLackPlace c near) → HoldsOne profile read c old new
 holds_one profile read near (insert p value) old new done writes either text kinds now at is_after (q, last, is, not_root, there) =
     let (steps, rest, spelled, inserts, inside, below) = writes at.whole in
     let given = is_after.1.value in
@@ -151,9 +150,9 @@ taken_is_found profile read p old new done writes text kinds at held =
     ((writes at.whole).1 not_root (standing lines) at.stands (rules_order lines at.good.good.0) inside).tells ∙ held
 
 -- one that is not made, and whose place may be spread, has no one place
-pub not_spread : (profile : Profile) (read : Read) (places : Places) (i : ℕ) (seen : Kinds) (c : Change) (old new : Tree) (done : Bool)
-    → WritesEdit profile read c old new done → done ≡ false → MayBeSpread places i c seen → IsNeitherOn profile read c old
-not_spread profile read places i seen (set p value) old new done writes is may text kinds now at none is_after one =
+pub not_spread : (profile : Profile) (read : Read) (seen : Kinds) (c : Change) (old new : Tree) (done : Bool)
+    → WritesEdit profile read c old new done → done ≡ false → MayLackPlace c seen → IsNeitherOn profile read c old
+not_spread profile read seen (set p value) old new done writes is may text kinds now at none is_after one =
     true≢false (sym (set_made profile read p value old new done writes text kinds now at none is_after plain).0 ∙ is)
   where
     plain : IsPlainOn profile text (set p value)
@@ -161,20 +160,20 @@ not_spread profile read places i seen (set p value) old new done writes is may t
       | inl h ↦ h
       | inr h ↦ absurd h
     ]
-not_spread profile read places i seen (insert p value) old new done writes is (q, j, at_index) text kinds now at none is_after one =
+not_spread profile read seen (insert p value) old new done writes is (q, j, at_index) text kinds now at none is_after one =
     elim (one at.good.tree at.good.spelled) [
       | inl (table, name, at_name, there) ↦ no_element q table j name (sym at_index ∙ at_name)
       | inr h ↦ true≢false (sym (put_is_found profile read p value old new done writes text kinds now at is_after h) ∙ is)
     ]
-not_spread profile read places i seen (rename p to) old new done writes is may text kinds now at none is_after one = may
-not_spread profile read places i seen (remove p) old new done writes is may text kinds now at none is_after one = may
-not_spread profile read places i seen (new_section p) old new done writes is may text kinds now at none is_after one = elim (one at.good.tree at.good.spelled) [
+not_spread profile read seen (rename p to) old new done writes is may text kinds now at none is_after one = may
+not_spread profile read seen (remove p) old new done writes is may text kinds now at none is_after one = may
+not_spread profile read seen (new_section p) old new done writes is may text kinds now at none is_after one = elim (one at.good.tree at.good.spelled) [
   | inl h ↦
       let (steps, spelled, rest, puts) = writes at.whole in
       true≢false (sym (section_follows profile read old new p text kinds now at none is_after h rest steps spelled done puts).0 ∙ is)
   | inr h ↦ h
 ]
-not_spread profile read places i seen (new_element p) old new done writes is may text kinds now at none is_after one = elim (one at.good.tree at.good.spelled) [
+not_spread profile read seen (new_element p) old new done writes is may text kinds now at none is_after one = elim (one at.good.tree at.good.spelled) [
   | inl h ↦
       let (steps, spelled, rest, puts) = writes at.whole in
       true≢false (sym (element_follows profile read old new p text kinds now at none is_after h rest steps spelled done puts).0 ∙ is)
@@ -195,9 +194,9 @@ not_last profile read seen (rename p to) old new done writes is takes text kinds
 not_last profile read seen (new_section p) old new done writes is takes text kinds now at none is_after one = takes
 not_last profile read seen (new_element p) old new done writes is takes text kinds now at none is_after one = takes
 
--- one that is made, or whose place is not spread, sets nothing that is spread
+-- where one is made, or the data tell that it has one place, that is not spread
 pub passes_one : (profile : Profile) (read : Read) (near : Kinds) (c : Change) (old new : Tree) (done : Bool) → WritesEdit profile read c old new done
-    → (done ≡ true) ⊎ IsOnePlace c near → PassesOne profile read near c old
+    → (done ≡ true) ⊎ (¬ MayLackPlace c near) → PassesOne profile read near c old
 passes_one profile read near (set p value) old new done writes (inl is) text kinds now at none is_after same spread =
     let (rest, sets) = writes at.whole in
     let given = is_after.1.value in
@@ -205,11 +204,17 @@ passes_one profile read near (set p value) old new done writes (inl is) text kin
     (set_is_there profile read old new p text kinds at (none RootNamed) given.tree done (sets given.within given.tree given.is_value) is)
 passes_one profile read near (set p value) old new done writes (inr one) text kinds now at none is_after same (inl is, apart) = one (inl (same ∙ is))
 passes_one profile read near (set p value) old new done writes (inr one) text kinds now at none is_after same (inr is, apart) = one (inr (same ∙ is))
-passes_one profile read near (insert p value) old new done writes either text kinds now at none is_after same spread = spread.0
-passes_one profile read near (rename p to) old new done writes either text kinds now at none is_after same spread = spread.0
-passes_one profile read near (remove p) old new done writes either text kinds now at none is_after same spread = spread.0
-passes_one profile read near (new_section p) old new done writes either text kinds now at none is_after same spread = spread.0
-passes_one profile read near (new_element p) old new done writes either text kinds now at none is_after same spread = spread.0
+passes_one profile read near (insert p value) old new done writes either text kinds now at none is_after same spread = spread.1
+passes_one profile read near (rename p to) old new done writes either text kinds now at none is_after same spread = spread.1
+passes_one profile read near (remove p) old new done writes either text kinds now at none is_after same spread = spread.1
+passes_one profile read near (new_section p) old new done writes (inl is) text kinds now at none is_after same spread =
+    let (steps, spelled, rest, puts) = writes at.whole in
+    true≢false (sym is ∙ section_refused profile read old new p text kinds at none steps spelled done puts spread.1)
+passes_one profile read near (new_section p) old new done writes (inr one) text kinds now at none is_after same spread = one tt
+passes_one profile read near (new_element p) old new done writes (inl is) text kinds now at none is_after same spread =
+    let (steps, spelled, rest, puts) = writes at.whole in
+    true≢false (sym is ∙ element_refused profile read old new p text kinds at none steps spelled done puts spread.1)
+passes_one profile read near (new_element p) old new done writes (inr one) text kinds now at none is_after same spread = one tt
 
 -- ---- lists
 
@@ -332,7 +337,7 @@ of_plain_made profile read cs i c old tree P makes here one d there text kinds m
     subst₂ (λ e t. P e t mid) same text_is
     (one all.after mid now all.at (subst (λ e. IsFault profile e mid None) (sym same) none) (subst (λ e. IsAfter profile e mid now) (sym same) is_after))
 
--- the first so many set nothing that is spread, nor does one more
+-- the places of the first so many are not spread, nor is that of one more
 pub none_passed : (profile : Profile) (read : Read) (cs : List Change) (near : Kinds) (tree : Tree) → PassesAll profile read cs near 0 tree
 none_passed profile read cs near tree k low = absurd (omega (arith, low))
 
@@ -348,10 +353,10 @@ more_passed profile read cs near part i c old tree so_far lead makes here one k 
         subst (PassesAt profile read cs near old) same (part, lead, of_plain_made profile read cs i c old tree (λ d text kinds. part (place d) ≡ kinds (place d) → ¬ IsSpreadOn profile text d kinds) makes here one)
 
 -- the fault with which they end
-pub stops_at : (profile : Profile) (read : Read) (places : Places) (cs : List Change) (near part : Kinds) (i : ℕ) (c : Change) (old tree : Tree)
+pub stops_at : (profile : Profile) (read : Read) (cs : List Change) (near part : Kinds) (i : ℕ) (c : Change) (old tree : Tree)
     (fault : EditorFault) → PassesAll profile read cs near i old → MakesAll profile read (take i cs) old tree → slice_get cs i ≡ Some c
-    → TellsOne profile places i c part fault → OfNoPlaceAt (λ at. IsNeitherOn profile read c tree) fault → Stops profile read cs near old fault
-stops_at profile read places cs near part i c old tree fault so_far makes here tells not = by fault tells not
+    → TellsOne profile i c part fault → OfNoPlaceAt (λ at. IsNeitherOn profile read c tree) fault → Stops profile read cs near old fault
+stops_at profile read cs near part i c old tree fault so_far makes here tells not = by fault tells not
   where
     passed : (j : ℕ) → j ≡ i → PassesAll profile read cs near j old
     passed j is = subst (λ n. PassesAll profile read cs near n old) (sym is) so_far
@@ -360,7 +365,7 @@ stops_at profile read places cs near part i c old tree fault so_far makes here t
     not_at j is one = subst (λ n. IsNeitherAt profile read cs n old) (sym is)
         (of_plain_made profile read cs i c old tree (λ d text kinds. ¬ IsPlainOrHeld profile text d) makes here one)
 
-    by : (f : EditorFault) → TellsOne profile places i c part f → OfNoPlaceAt (λ at. IsNeitherOn profile read c tree) f → Stops profile read cs near old f
+    by : (f : EditorFault) → TellsOne profile i c part f → OfNoPlaceAt (λ at. IsNeitherOn profile read c tree) f → Stops profile read cs near old f
     by (faults.Edit j x) h one = record { passed = passed j h.0; spread = tt }
     by (faults.Spread j) h one = record { passed = passed j h.0; spread = not_at j h.0 one }
     by (faults.LastElement j) h one = record { passed = passed j h.0; spread = not_at j h.0 one }

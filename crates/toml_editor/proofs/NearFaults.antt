@@ -21,9 +21,8 @@ use Rattle.toml_edits.specs.Edits as edits
 use Rattle.toml_edits.specs.Faults.{IsFault}
 use Rattle.toml_edits.specs.Near.{AreNear, IsNear}
 use Rattle.toml_edits.proofs.Proved.{leads_beside, fault_beside}
-use Rattle.toml_editor.specs.Edited.{SoFar, OfDefined, MayBeSpread, TakesLastElement}
-use Rattle.toml_working.specs.InValues.{Places}
-use Rattle.toml_editor.specs.Making.{TellsAny}
+use Rattle.toml_editor.specs.Edited.{SoFar, OfDefined, TakesLastElement}
+use Rattle.toml_editor.specs.Making.{MayLackPlace, TellsAny}
 use Rattle.toml_editor.specs.declared.fault.EditorFault.{EditorFault}
 use Rattle.toml_editor.specs.declared.fault.EditorFault.TheVariants as faults
 
@@ -50,14 +49,14 @@ place_shown hidden c old new is = shown hidden old new (place c) (is.fronts (pla
 fault_on : (profile : Profile) (hidden : Cover) (old : Kinds) (found : Option EditFault) (c : Change) (mid : Kinds) → IsNear hidden c → IsFault profile c mid found → IsFault profile c (beside hidden old mid) found
 fault_on profile hidden old found c mid is h = fault_beside profile hidden c old mid is found h
 
-spread_on : (places : Places) (hidden : Cover) (old : Kinds) (i : ℕ) (c : Change) (mid : Kinds) → IsNear hidden c → MayBeSpread places i c mid → MayBeSpread places i c (beside hidden old mid)
-spread_on places hidden old i (edits.set at value) mid is (inl e) = inl (sym (place_shown hidden (edits.set at value) old mid is) ∙ e)
-spread_on places hidden old i (edits.set at value) mid is (inr e) = inr (sym (place_shown hidden (edits.set at value) old mid is) ∙ e)
-spread_on places hidden old i (edits.insert at value) mid is h = h
-spread_on places hidden old i (edits.rename at to) mid is h = absurd h
-spread_on places hidden old i (edits.remove at) mid is h = absurd h
-spread_on places hidden old i (edits.new_section at) mid is h = h
-spread_on places hidden old i (edits.new_element at) mid is h = h
+spread_on : (hidden : Cover) (old : Kinds) (c : Change) (mid : Kinds) → IsNear hidden c → MayLackPlace c mid → MayLackPlace c (beside hidden old mid)
+spread_on hidden old (edits.set at value) mid is (inl e) = inl (sym (place_shown hidden (edits.set at value) old mid is) ∙ e)
+spread_on hidden old (edits.set at value) mid is (inr e) = inr (sym (place_shown hidden (edits.set at value) old mid is) ∙ e)
+spread_on hidden old (edits.insert at value) mid is h = h
+spread_on hidden old (edits.rename at to) mid is h = absurd h
+spread_on hidden old (edits.remove at) mid is h = absurd h
+spread_on hidden old (edits.new_section at) mid is h = h
+spread_on hidden old (edits.new_element at) mid is h = h
 
 last_on : (hidden : Cover) (old : Kinds) (c : Change) (mid : Kinds) → IsNear hidden c → TakesLastElement c mid → TakesLastElement c (beside hidden old mid)
 last_on hidden old (edits.remove at) mid is (q, e, some, none) =
@@ -68,7 +67,7 @@ last_on hidden old (edits.rename at to) mid is h = absurd h
 last_on hidden old (edits.new_section at) mid is h = absurd h
 last_on hidden old (edits.new_element at) mid is h = absurd h
 
-module _ (profile : Profile) (places : Places) (hidden : Cover) (old : Kinds) (cs : List Change) (are : AreNear hidden cs) where
+module _ (profile : Profile) (hidden : Cover) (old : Kinds) (cs : List Change) (are : AreNear hidden cs) where
   so : (i : ℕ) (P : Change → Kinds → Type 0) → ((c : Change) (mid : Kinds) → IsNear hidden c → P c mid → P c (beside hidden old mid)) → SoFar profile cs (near hidden old) i P → SoFar profile cs old i P
   so i P on (mid, lead, c, is, p) =
       (beside hidden old mid, leads_beside profile hidden (take i cs) old (near hidden old) mid (near_front hidden i cs are) (λ at. refl) lead, c, is, on c mid (near_one hidden i cs c is are) p)
@@ -76,9 +75,9 @@ module _ (profile : Profile) (places : Places) (hidden : Cover) (old : Kinds) (c
   defined_on : (P : Change → Kinds → Type 0) → ((c : Change) (mid : Kinds) → IsNear hidden c → P c mid → P c (beside hidden old mid)) → (c : Change) (mid : Kinds) → IsNear hidden c → OfDefined profile P c mid → OfDefined profile P c (beside hidden old mid)
   defined_on P on c mid is (none, p) = (fault_on profile hidden old None c mid is none, on c mid is p)
 
-  any_near : (fault : EditorFault) → TellsAny profile places cs (near hidden old) fault → TellsAny profile places cs old fault
+  any_near : (fault : EditorFault) → TellsAny profile cs (near hidden old) fault → TellsAny profile cs old fault
   any_near (faults.Edit i f) h = so i (λ c kinds. IsFault profile c kinds (Some f)) (fault_on profile hidden old (Some f)) h
-  any_near (faults.Spread i) h = so i (OfDefined profile (MayBeSpread places i)) (defined_on (MayBeSpread places i) (spread_on places hidden old i)) h
+  any_near (faults.Spread i) h = so i (OfDefined profile MayLackPlace) (defined_on MayLackPlace (spread_on hidden old)) h
   any_near (faults.LastElement i) h = so i (OfDefined profile TakesLastElement) (defined_on TakesLastElement (last_on hidden old)) h
   any_near faults.NoMemory h = tt
   any_near (faults.Text f) h = absurd h
@@ -89,8 +88,8 @@ module _ (profile : Profile) (places : Places) (hidden : Cover) (old : Kinds) (c
 
   module _ (part : Kinds) (of : (a : Address) → part a ≡ near hidden old a) where
     -- what is told of the near data is told of all
-    pub any_of_all : (fault : EditorFault) → TellsAny profile places cs part fault → TellsAny profile places cs old fault
-    any_of_all fault h = any_near fault (subst (λ k. TellsAny profile places cs k fault) (fun_ext of) h)
+    pub any_of_all : (fault : EditorFault) → TellsAny profile cs part fault → TellsAny profile cs old fault
+    any_of_all fault h = any_near fault (subst (λ k. TellsAny profile cs k fault) (fun_ext of) h)
 
 -- the lines of a document have data
 pub has_data : (profile : Profile) (text : List ℕ) (d : Doc) → IsDocumentIn profile text → Spells d text → IsDataOf (named d.lines) (fact_at (named d.lines))

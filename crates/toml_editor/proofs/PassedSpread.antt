@@ -28,7 +28,7 @@ use Rattle.toml_editor.specs.Exact.{IsAt, IsNeitherAt, IsSpreadOn, OfNumber, OfP
 use Rattle.toml_layout.specs.declared.layout.Layout.{Layout}
 use Rattle.toml_working.specs.Manners.{Manner}
 use Rattle.toml_working.specs.Putting.{manner}
-use Rattle.toml_editor.specs.PlainTexts.{AfterPlain, IsPlainOrHeld, IsSpreadSet, IsNeitherPlainNorHeld, NoSpreadSet}
+use Rattle.toml_editor.specs.PlainTexts.{AfterPlain, IsPlainOrHeld, IsSpreadIn, IsNeitherPlainNorHeld, NoneIsSpread}
 use Rattle.toml_working.specs.Standing.{Read, standing}
 use Rattle.toml_working.specs.Stands.{Stands}
 use Rattle.toml_working.specs.Starting.{NoneIsGone}
@@ -36,7 +36,7 @@ use Rattle.toml_editor.specs.Steps.{AreWritten, IsGoodText}
 use Rattle.toml_working.specs.Written.{manner_of, style_of}
 use Rattle.toml_editor.proofs.NearFaults.{near_front, near_one, place_shown}
 use Rattle.toml_editor.proofs.written.Elsewhere.{style_is_newline}
-use Rattle.toml_editor.proofs.written.ScalarsLone.{sets_many}
+use Rattle.toml_editor.proofs.written.ScalarsLone.{may_lack}
 use Rattle.toml_editor.proofs.written.Steps.{plain_steps}
 
 module _ (profile : Profile) (read : Read) (d : Doc) (before : List ℕ) (tree : Tree) (document : IsDocumentIn profile before)
@@ -99,11 +99,11 @@ module _ (profile : Profile) (read : Read) (d : Doc) (before : List ℕ) (tree :
   neither_edit_of cs (faults.Unverified r) not = tt
   neither_edit_of cs faults.NoMemory not = tt
 
-  -- ---- edits that set nothing that is spread
+  -- ---- edits whose places are not spread
 
   module _ (hidden : Cover) (cs : List Change) (are : AreNear hidden cs) (old : Kinds) (facts : IsDataOf (named d.lines) old) (part : Kinds)
       (of : (a : _) → part a ≡ near hidden old a) where
-    passes_text : (k : ℕ) → PassesAt profile read cs part tree k → AfterPlain layout profile before cs d k (λ c text. ¬ IsSpreadSet profile text c)
+    passes_text : (k : ℕ) → PassesAt profile read cs part tree k → AfterPlain layout profile before cs d k (λ c text. ¬ IsSpreadIn profile text c)
     passes_text k (near_k, led, holds) c is other mid now other_facts lead none is_after plain between written spread =
         let same_old : other ≡ old = fun_ext (one_data (named d.lines) other old other_facts facts) in
         let all = leads_beside profile hidden (take k cs) old part near_k (near_front hidden k cs are) of led in
@@ -112,23 +112,23 @@ module _ (profile : Profile) (read : Read) (d : Doc) (before : List ℕ) (tree :
         let good = plain_steps profile (take k cs) (manner_of layout d.lines) before between other mid newline (good_at other other_facts) lead written in
         after_plain cs k (λ e text kinds. near_k (place e) ≡ kinds (place e) → ¬ IsSpreadOn profile text e kinds) holds c is other mid now other_facts lead
         none is_after plain between written (place_shown hidden c old near_k (near_one hidden k cs c is are) ∙ sym mid_is)
-        (sets_many profile between mid c good.0 none spread, spread)
+        (may_lack profile between mid c good.0 none spread, spread)
 
-    pub no_spread_set : (n : ℕ) → PassesAll profile read cs part n tree → NoSpreadSet layout profile before cs n
-    no_spread_set n passes = (d, spelled, (λ k low. passes_text k (passes k low)))
+    pub none_is_spread : (n : ℕ) → PassesAll profile read cs part n tree → NoneIsSpread layout profile before cs n
+    none_is_spread n passes = (d, spelled, (λ k low. passes_text k (passes k low)))
 
-    pub no_spread_set_of : (fault : EditorFault) → OfNumber (λ n. PassesAll profile read cs part n tree) fault → OfNumber (NoSpreadSet layout profile before cs) fault
-    no_spread_set_of (faults.Edit n f) passes = no_spread_set n passes
-    no_spread_set_of (faults.Spread n) passes = no_spread_set n passes
-    no_spread_set_of (faults.LastElement n) passes = no_spread_set n passes
-    no_spread_set_of (faults.Text f) passes = tt
-    no_spread_set_of (faults.Syntax f) passes = tt
-    no_spread_set_of (faults.Names f) passes = tt
-    no_spread_set_of faults.TooLong passes = tt
-    no_spread_set_of (faults.Unverified r) passes = tt
-    no_spread_set_of faults.NoMemory passes = tt
+    pub none_is_spread_of : (fault : EditorFault) → OfNumber (λ n. PassesAll profile read cs part n tree) fault → OfNumber (NoneIsSpread layout profile before cs) fault
+    none_is_spread_of (faults.Edit n f) passes = none_is_spread n passes
+    none_is_spread_of (faults.Spread n) passes = none_is_spread n passes
+    none_is_spread_of (faults.LastElement n) passes = none_is_spread n passes
+    none_is_spread_of (faults.Text f) passes = tt
+    none_is_spread_of (faults.Syntax f) passes = tt
+    none_is_spread_of (faults.Names f) passes = tt
+    none_is_spread_of faults.TooLong passes = tt
+    none_is_spread_of (faults.Unverified r) passes = tt
+    none_is_spread_of faults.NoMemory passes = tt
 
     -- both, of the fault with which the edits end
     pub stops_told : (fault : EditorFault) → Stops profile read cs part tree fault
-        → OfNumber (NoSpreadSet layout profile before cs) fault × OfNoPlaceAt (IsNeitherPlainNorHeld layout profile before cs) fault
-    stops_told fault stops = (no_spread_set_of fault stops.passed, neither_edit_of cs fault stops.spread)
+        → OfNumber (NoneIsSpread layout profile before cs) fault × OfNoPlaceAt (IsNeitherPlainNorHeld layout profile before cs) fault
+    stops_told fault stops = (none_is_spread_of fault stops.passed, neither_edit_of cs fault stops.spread)

@@ -24,7 +24,7 @@ use Rattle.toml_checker.specs.Documents.{OfTree, OfData, AreDefined}
 use Rattle.toml_editor.specs.CertifiedLists.{ArePlain}
 use Rattle.toml_editor.specs.Edited.{MayBeSpread, OfDefined, OnDataSoFar, SoFar, TellsWith, TakesLastElement}
 use Rattle.toml_editor.specs.PlainAnswers.{FirstFaultIsAnswered, FirstSpreadIsAnswered, IsAnswer, IsFaultOrMemory, LongIsAnswered, PlainIsAnswered, PlainSoFar}
-use Rattle.toml_editor.specs.PlainTexts.{AfterPlain, IsPlainOrHeld, IsNoPlainList, IsPlainOn, IsNeitherPlainNorHeld, IsSpreadSet, NoSpreadSet, WritesPlain}
+use Rattle.toml_editor.specs.PlainTexts.{AfterPlain, IsPlainOrHeld, IsNoPlainList, IsPlainOn, IsNeitherPlainNorHeld, IsSpreadIn, NoneIsSpread, WritesPlain}
 use Rattle.toml_editor.specs.Steps.{AreWritten}
 use Rattle.toml_layout.specs.declared.layout.Layout.{Layout}
 use Rattle.toml_working.specs.Written.{manner_of}
@@ -132,7 +132,7 @@ module _ (layout : Layout) (profile : Profile) (before : List ℕ) (cs : List Ch
       subst P (fun_ext (one_data (named d.lines) kinds so_far.old
       (subst (λ (x : Doc). IsDataOf (named x.lines) kinds) (one_tree e d before e_spelled spelled) facts) so_far.facts)) holds
 
-  -- an edit before that has no fault, sets nothing spread, and is plain
+  -- an edit before that has no fault, is not spread, and is plain
   no_fault_before : (j : ℕ) (P : Change → Kinds → Type 0) → ((c : Change) (kinds : Kinds) → P c kinds → (fault : EditFault) × IsFault profile c kinds (Some fault))
       → j < n → OnDataSoFar profile before cs j P → ⊥
   no_fault_before j P faulty low on =
@@ -286,33 +286,33 @@ module _ (layout : Layout) (profile : Profile) (before : List ℕ) (cs : List Ch
   faulty_is_answered fault h (Err (faults.Unverified r)) told = absurd (not_defined fault h told.0.1)
   faulty_is_answered fault h (Err faults.NoMemory) told = inr refl
 
-  module _ (none : IsFault profile c mid None) (spread : IsSpreadSet profile between c) where
-    -- where the edits up to a later one lead on, it is told that none sets what is spread
-    passed : (m : ℕ) (there : Kinds) → Lead profile (take m cs) old there → n < m → NoSpreadSet layout profile before cs m → ⊥
+  module _ (none : IsFault profile c mid None) (spread : IsSpreadIn profile between c) where
+    -- where the edits up to a later one lead on, it is told that the place of none is spread
+    passed : (m : ℕ) (there : Kinds) → Lead profile (take m cs) old there → n < m → NoneIsSpread layout profile before cs m → ⊥
     passed m there lead less none_spread =
         let at = defined_at profile cs m n old there c lead less is in
         of_tree layout profile before cs n between mid so_far
-        (λ x. (k : ℕ) → k < m → AfterPlain layout profile before cs x k (λ y text. ¬ IsSpreadSet profile text y)) none_spread n less c is old at.mid at.next so_far.facts
+        (λ x. (k : ℕ) → k < m → AfterPlain layout profile before cs x k (λ y text. ¬ IsSpreadIn profile text y)) none_spread n less c is old at.mid at.next so_far.facts
         at.lead at.none at.is_after so_far.plain between so_far.written spread
 
-    passed_all : OfData before (AreDefined profile cs) → NoSpreadSet layout profile before cs (length cs) → ⊥
+    passed_all : OfData before (AreDefined profile cs) → NoneIsSpread layout profile before cs (length cs) → ⊥
     passed_all defined =
         let (new, lead) = of_data layout profile before cs n between mid so_far (AreDefined profile cs) defined in
         passed (length cs) new (subst (λ ds. Lead profile ds old new) (sym (take_all (length cs) cs (omega arith))) lead) (slice_get_within cs n c is)
 
-    passed_at : (j : ℕ) (P : Change → Kinds → Type 0) → OnDataSoFar profile before cs j P → n < j → NoSpreadSet layout profile before cs j → ⊥
+    passed_at : (j : ℕ) (P : Change → Kinds → Type 0) → OnDataSoFar profile before cs j P → n < j → NoneIsSpread layout profile before cs j → ⊥
     passed_at j P on =
         let (there, lead, x, x_is, holds) = of_data layout profile before cs n between mid so_far (λ k. SoFar profile cs k j P) on in
         passed j there lead
 
-    -- an edit that sets takes no last element
-    takes_none : (x : Change) → IsSpreadSet profile between x → TakesLastElement x mid → ⊥
-    takes_none (edits.set p text) sets takes = takes
-    takes_none (edits.insert p text) sets takes = sets
-    takes_none (edits.rename p to) sets takes = sets
-    takes_none (edits.remove p) sets takes = sets
-    takes_none (edits.new_section p) sets takes = sets
-    takes_none (edits.new_element p) sets takes = sets
+    -- an edit whose place is spread takes no last element
+    takes_none : (x : Change) → IsSpreadIn profile between x → TakesLastElement x mid → ⊥
+    takes_none (edits.set p text) spread takes = takes
+    takes_none (edits.insert p text) spread takes = spread
+    takes_none (edits.rename p to) spread takes = spread
+    takes_none (edits.remove p) spread takes = spread
+    takes_none (edits.new_section p) spread takes = takes
+    takes_none (edits.new_element p) spread takes = takes
 
     spread_is_answered : (answer : Result (List ℕ × List (ℕ × ℕ)) EditorFault) → IsAnswer layout profile before cs answer
         → IsFaultOrMemory (faults.Spread n) answer

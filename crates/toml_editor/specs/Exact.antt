@@ -1,5 +1,5 @@
 -- What the making of plain edits gives: the working tree stands for the text that they write.
-use Rattle.std.specs.Prelude.{◌≡◌, ◌⊎◌, ◌<◌, ℕ, Bool, true, List, [], ◌∷◌, ◌++◌, length, take, Some, None, slice_get}
+use Rattle.std.specs.Prelude.{◌≡◌, ◌<◌, ℕ, Bool, true, List, [], ◌∷◌, ◌++◌, length, take, Some, None, slice_get}
 use Rattle.std.specs.List.{list_any}
 use Rattle.std.specs.declared.alloc.Global.{Global}
 use Rattle.std.specs.declared.string.String.{String}
@@ -10,9 +10,8 @@ use Rattle.toml_scalar.specs.Spelling.{spelled}
 use Rattle.toml_tree.specs.Profiles.{IsValueIn, SpellsIn}
 use Rattle.toml_tree.specs.Tree.{Doc, Value}
 use Rattle.toml_tree.specs.declared.profile.Profile.{Profile}
-use Rattle.toml_names.specs.mentions.Mentions.{a_table, an_array}
 use Rattle.toml_names.specs.declared.model.address.Step.{Step}
-use Rattle.toml_names.specs.model.Addresses.{Address, element}
+use Rattle.toml_names.specs.model.Addresses.{Address}
 use Rattle.toml_names.specs.model.Data.{Kinds}
 use Rattle.toml_edits.specs.After.{IsAfter}
 use Rattle.toml_edits.specs.Edits.{Change, insert, place, rename, set, remove, new_section, new_element}
@@ -24,6 +23,7 @@ use Rattle.toml_working.specs.declared.working.Tree.{Tree}
 use Rattle.toml_working.specs.Becoming.{TreeRenames}
 use Rattle.toml_editor.specs.CertifiedLists.{ArePlain}
 use Rattle.toml_editor.specs.LastTexts.{ChangesLines, IsInContainer}
+use Rattle.toml_editor.specs.Making.{MayLackPlace}
 use Rattle.toml_layout.specs.declared.tree.Value.{Value as OpenValue}
 use Rattle.toml_layout.specs.Holding.{PutsHeld}
 use Rattle.toml_layout.specs.declared.tree.Brackets.{Brackets}
@@ -32,7 +32,7 @@ use Rattle.toml_layout.specs.OpenOutlines.{leaf_text, value as open_outline}
 use Rattle.toml_working.specs.AddingHeaders.{TreeAddsHeader}
 use Rattle.toml_working.specs.Headers.{innermost}
 use Rattle.toml_working.specs.HeldLines.{HoldsLines, TakesFromValue}
-use Rattle.toml_editor.specs.PlainTexts.{IsPlainOrHeld, IsPlainOn, IsSpreadSet}
+use Rattle.toml_editor.specs.PlainTexts.{IsPlainOrHeld, IsPlainOn, IsSpreadIn}
 use Rattle.toml_working.specs.Putting.{TreeInserts, manner}
 use Rattle.toml_working.specs.Sections.{TreePutsBelow}
 use Rattle.toml_working.specs.RemovingIn.{RemovesLines}
@@ -137,16 +137,11 @@ abbrev pub IsNeitherOn : Profile → Read → Change → Tree → Type 0
 IsNeitherOn profile read c tree = (text : List ℕ) (kinds now : Kinds) → IsAt profile read tree text kinds
     → IsFault profile c kinds None → IsAfter profile c kinds now → ¬ IsPlainOrHeld profile text c
 
--- it sets what is a table or an array
-abbrev pub SetsMany : Change → Kinds → Type 0
-SetsMany (set p value) kinds = (kinds p ≡ Some a_table) ⊎ (kinds p ≡ Some an_array)
-SetsMany _ kinds = ⊥
-
--- and there the text has no single value
+-- and the text has none
 abbrev pub IsSpreadOn : Profile → List ℕ → Change → Kinds → Type 0
-IsSpreadOn profile text c kinds = SetsMany c kinds × IsSpreadSet profile text c
+IsSpreadOn profile text c kinds = MayLackPlace c kinds × IsSpreadIn profile text c
 
--- The tree stands for no text on which the edit, without a fault, sets what is spread. Of the data those are known that are near the
+-- The tree stands for no text in which the place of the edit, without a fault, is spread. Of the data those are known that are near the
 -- edit.
 abbrev pub PassesOne : Profile → Read → Kinds → Change → Tree → Type 0
 PassesOne profile read near c tree = (text : List ℕ) (kinds now : Kinds) → IsAt profile read tree text kinds
@@ -160,12 +155,12 @@ OfPlain profile read cs tree k P = (c : Change) → slice_get cs k ≡ Some c �
     → ArePlain profile (take k cs) (manner tree) text
     → (between : List ℕ) → AreWritten profile (take k cs) (manner tree) text between → P c between mid
 
--- the edit with this number, where those before it are plain, sets nothing that is spread; of the data those are known that are near
+-- the place of the edit with this number, where those before it are plain, is not spread; of the data those are known that are near
 abbrev pub PassesAt : Profile → Read → List Change → Kinds → Tree → ℕ → Type 0
 PassesAt profile read cs near tree k = (part : Kinds) × Lead profile (take k cs) near part
     × OfPlain profile read cs tree k (λ c text kinds. part (place c) ≡ kinds (place c) → ¬ IsSpreadOn profile text c kinds)
 
--- nor does any of the first so many
+-- nor is that of any of the first so many
 abbrev pub PassesAll : Profile → Read → List Change → Kinds → ℕ → Tree → Type 0
 PassesAll profile read cs near n tree = (k : ℕ) → k < n → PassesAt profile read cs near tree k
 
@@ -184,13 +179,7 @@ HoldsLast profile read cs old new = (front : List Change) (c : Change) → cs �
     → (ts : List Standing) × Stands (text_of old.texts.source) read new.slots.items ts
     × ChangesLines (manner old).layout profile c (standing e.lines) ts
 
--- the place of an edit is one: it sets no table and no array, and puts in no element
-abbrev pub IsOnePlace : Change → Kinds → Type 0
-IsOnePlace (set p value) kinds = ¬ SetsMany (set p value) kinds
-IsOnePlace (insert p value) kinds = (q : Address) (i : ℕ) → ¬ (p ≡ element q i)
-IsOnePlace _ kinds = Unit {0}
-
--- Of an edit that is made: what it makes where it is plain, and that it sets nothing that is spread;
+-- Of an edit that is made: what it makes where it is plain, and that its place is not spread;
 pub record DoneOne (profile : Profile) (read : Read) (near : Kinds) (c : Change) (old new : Tree) : Type 0 where
   pub makes : MakesOne profile read c old new
   pub holds : HoldsOne profile read c old new
@@ -219,8 +208,8 @@ OfNoPlaceAt P (Spread i) = P i
 OfNoPlaceAt P (LastElement i) = P i
 OfNoPlaceAt P _ = Unit {0}
 
--- no edit before the one with the fault sets what is spread, and that one is neither plain nor held, if it is told to be spread or to take a
--- last element
+-- no edit before the one with the fault has a place that is spread, and that one is neither plain nor held, if it is told to be spread or to
+-- take a last element
 pub record Stops (profile : Profile) (read : Read) (cs : List Change) (near : Kinds) (tree : Tree) (fault : EditorFault) : Type 0 where
   pub passed : OfNumber (λ n. PassesAll profile read cs near n tree) fault
   pub spread : OfNoPlaceAt (λ j. IsNeitherAt profile read cs j tree) fault

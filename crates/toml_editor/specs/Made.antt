@@ -7,34 +7,28 @@ use Rattle.toml_edits.specs.Lists.{Lead}
 use Rattle.toml_editor.specs.declared.fault.EditorFault.{EditorFault}
 use Rattle.toml_editor.specs.declared.making.Read.{Read}
 use Rattle.toml_working.specs.declared.working.Tree.{Tree}
-use Rattle.toml_working.specs.InValues.{Places}
 use Rattle.toml_editor.specs.Exact.{DoneAll, DoneOne, IsNeitherOn, OfNoPlaceAt, Stops}
 use Rattle.toml_editor.specs.Making.{IsMade, TellsAny, TellsOne}
-use Rattle.toml_working.specs.InValues.{places_of}
 use Rattle.toml_working.specs.Starting.{read_of}
 
--- where the things of the text before the edits stand
-abbrev pub places_in : Read → Places
-places_in read = places_of (read_of read.before).lines
-
--- the edit is made on the data, and where it is plain on the working tree; it sets nothing that is spread over lines
+-- the edit is made on the data, and where it is plain on the working tree; its place is not spread over lines
 pub record MakesEdit (read : Read) (c : Change) (old new : Draft) (before after : Tree) : Type 0 where
   pub applied : IsMade read.profile c old new
   pub done : DoneOne read.profile (read_of read.before) (drafted old) c before after
 
 -- the edit with this number has the fault on the data; where that is of its place, or of a last element, the edit is neither plain nor held
 pub record RefusesEdit (read : Read) (index : ℕ) (c : Change) (old : Draft) (tree : Tree) (fault : EditorFault) : Type 0 where
-  pub told : TellsOne read.profile (places_in read) index c (drafted old) fault
+  pub told : TellsOne read.profile index c (drafted old) fault
   pub neither : OfNoPlaceAt (λ at. IsNeitherOn read.profile (read_of read.before) c tree) fault
 
 -- the edits are made one after the other: they lead from the one data to the other, and where they are plain so they do on the working
--- tree; none whose forerunners are plain sets anything that is spread over lines
+-- tree; of none whose forerunners are plain is the place spread over lines
 pub record MakesEdits (read : Read) (cs : List Change) (old new : Draft) (before after : Tree) : Type 0 where
   pub lead : Lead read.profile cs (drafted old) (drafted new)
   pub done : DoneAll read.profile (read_of read.before) (drafted old) cs before after
 
--- Some edit has the fault on the data to which those before it lead. Where these are plain, they set nothing that is spread over lines,
+-- Some edit has the fault on the data to which those before it lead. Where these are plain, their places are not spread over lines,
 -- and where the fault is of its place, or of a last element, the edit is neither plain nor held.
 pub record RefusesEdits (read : Read) (cs : List Change) (old : Draft) (tree : Tree) (fault : EditorFault) : Type 0 where
-  pub told : TellsAny read.profile (places_in read) cs (drafted old) fault
+  pub told : TellsAny read.profile cs (drafted old) fault
   pub stops : Stops read.profile (read_of read.before) cs (drafted old) tree fault

@@ -11,7 +11,7 @@ use Rattle.toml_edits.specs.Faults.{IsFault}
 use Rattle.toml_edits.specs.Lists.{Lead}
 use Rattle.toml_editor.specs.CertifiedLists.{ArePlain}
 use Rattle.toml_editor.specs.Edited.{IsEditedWith, TellsWith}
-use Rattle.toml_editor.specs.PlainTexts.{IsSpreadSet}
+use Rattle.toml_editor.specs.PlainTexts.{IsSpreadIn}
 use Rattle.toml_editor.specs.Steps.{AreWritten}
 use Rattle.toml_layout.specs.declared.layout.Layout.{Layout}
 use Rattle.toml_working.specs.Written.{manner_of}
@@ -59,10 +59,10 @@ FirstFaultIsAnswered = (layout : Layout) (profile : Profile) (before : List ℕ)
     → IsFault profile c mid (Some fault) → (answer : Result (List ℕ × List (ℕ × ℕ)) EditorFault) → IsAnswer layout profile before cs answer
     → IsFaultOrMemory (Edit n fault) answer
 
--- and where it has none and is a `set` of an address where the text so far has no one value, the answer is that its place is spread,
--- with its number.
+-- and where it has none, but the text so far has no one place for it, as `IsSpreadIn` has it of a `set`, a `section` and an `element`, the
+-- answer is that its place is spread, with its number.
 abbrev pub FirstSpreadIsAnswered : Type 0
 FirstSpreadIsAnswered = (layout : Layout) (profile : Profile) (before : List ℕ) (cs : List Change) (n : ℕ) (between : List ℕ) (mid : Kinds)
     → PlainSoFar layout profile before cs n between mid → (c : Change) → slice_get cs n ≡ Some c → IsFault profile c mid None
-    → IsSpreadSet profile between c → (answer : Result (List ℕ × List (ℕ × ℕ)) EditorFault) → IsAnswer layout profile before cs answer
+    → IsSpreadIn profile between c → (answer : Result (List ℕ × List (ℕ × ℕ)) EditorFault) → IsAnswer layout profile before cs answer
     → IsFaultOrMemory (Spread n) answer

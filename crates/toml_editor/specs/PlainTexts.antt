@@ -9,10 +9,11 @@ use Rattle.toml_names.specs.model.Addresses.{Address}
 use Rattle.toml_names.specs.model.Data.{IsDataOf, Kinds}
 use Rattle.toml_checker.specs.Documents.{OfTree}
 use Rattle.toml_edits.specs.After.{IsAfter}
-use Rattle.toml_edits.specs.Edits.{Change, insert, remove, set}
+use Rattle.toml_edits.specs.Edits.{Change, insert, new_element, new_section, remove, set}
 use Rattle.toml_edits.specs.Faults.{IsFault}
 use Rattle.toml_edits.specs.Lists.{Lead}
 use Rattle.toml_editor.specs.CertifiedLists.{ArePlain}
+use Rattle.toml_editor.specs.EditedLines.{IsInNoValue}
 use Rattle.toml_editor.specs.LastTexts.{HasContainerAt}
 use Rattle.toml_editor.specs.Steps.{AreWritten, IsPlain}
 use Rattle.toml_layout.specs.declared.layout.Layout.{Layout}
@@ -33,10 +34,13 @@ IsNoPlainList layout profile before cs =
 abbrev pub IsPlainOn : Profile → List ℕ → Change → Type 0
 IsPlainOn profile text c = (d : Doc) → SpellsIn profile d text → IsPlain d.lines c
 
--- it sets an address where no single value stands in the text, as where headers, dotted keys or lines of a table make what is there
-abbrev pub IsSpreadSet : Profile → List ℕ → Change → Type 0
-IsSpreadSet profile text (set p value) = (d : Doc) → SpellsIn profile d text → ¬ HasValue d.lines p
-IsSpreadSet profile text _ = ⊥
+-- The text has no one place for the edit. A `set`: no single value stands at its address, as where headers, dotted keys or lines of a table
+-- make what is there. A `section` and an `element`: right above stands a line's value, or what a line's value holds.
+abbrev pub IsSpreadIn : Profile → List ℕ → Change → Type 0
+IsSpreadIn profile text (set p value) = (d : Doc) → SpellsIn profile d text → ¬ HasValue d.lines p
+IsSpreadIn profile text (new_section p) = (q : Address) × (s : Step) × (p ≡ q ++ s ∷ []) × ((d : Doc) → SpellsIn profile d text → ¬ IsInNoValue d.lines q)
+IsSpreadIn profile text (new_element p) = (q : Address) × (s : Step) × (p ≡ q ++ s ∷ []) × ((d : Doc) → SpellsIn profile d text → ¬ IsInNoValue d.lines q)
+IsSpreadIn profile text _ = ⊥
 
 -- `P` holds of the edit with this number and of the text before it, if the edit is defined and those before it are defined and plain.
 abbrev pub AfterPlain : Layout → Profile → List ℕ → List Change → Doc → ℕ → (Change → List ℕ → Type 0) → Type 0
@@ -45,10 +49,10 @@ AfterPlain layout profile before cs d k P = (c : Change) → slice_get cs k ≡ 
     → ArePlain profile (take k cs) (manner_of layout d.lines) before
     → (between : List ℕ) → AreWritten profile (take k cs) (manner_of layout d.lines) before between → P c between
 
--- of the first so many edits none, where those before it are plain, sets what is spread
-abbrev pub NoSpreadSet : Layout → Profile → List ℕ → List Change → ℕ → Type 0
-NoSpreadSet layout profile before cs n =
-    OfTree before (λ d. (k : ℕ) → k < n → AfterPlain layout profile before cs d k (λ c text. ¬ IsSpreadSet profile text c))
+-- of the first so many edits none, where those before it are plain, has a place that is spread
+abbrev pub NoneIsSpread : Layout → Profile → List ℕ → List Change → ℕ → Type 0
+NoneIsSpread layout profile before cs n =
+    OfTree before (λ d. (k : ℕ) → k < n → AfterPlain layout profile before cs d k (λ c text. ¬ IsSpreadIn profile text c))
 
 -- an array or an inline table in the value of a line holds what the edit puts in or takes out; what is put in at the root is in none
 abbrev pub HasContainerFor : List Line → Change → Type 0

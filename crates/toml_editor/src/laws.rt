@@ -204,8 +204,9 @@ pub fn standing_removed()
 
 /// What the editor answers in a layout, want of memory aside. Where all edits of a list are defined on the data so far and plain, it is the
 /// text that they write, if it is within the limit of a text, and else that it is too long. Where the edits before one are so,
-/// and it is not defined, it is that edit's fault with its number; where it is a defined `set` of an address where the text so
-/// far has no one value, it is that its place is spread, with its number.
+/// and it is not defined, it is that edit's fault with its number; where it is defined, but a `set` of an address where the text so
+/// far has no one value, or a `section` or an `element` right above which stands the value of a line, or what one holds, it is that
+/// its place is spread, with its number.
 pub fn plain_answers()
     ensures plain { PlainIsAnswered }
     ensures long { LongIsAnswered }

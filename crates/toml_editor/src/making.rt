@@ -3,10 +3,10 @@ ghost use Rattle.std.specs.Prelude.{◌≡◌, IfErr, IfOk, IsTrue, OnOk, false,
 ghost use Rattle.toml_scalar.specs.Spelling.{spelled};
 ghost use Rattle.toml_edits.specs.Drafts.{drafted};
 ghost use Rattle.toml_edits.specs.Edits.{change};
-ghost use Rattle.toml_editor.specs.Edited.{MayBeSpread, TakesLastElement};
-ghost use Rattle.toml_editor.specs.Exact.{IsOnePlace, WritesBelow, WritesEdit, WritesHeader, WritesInsert, WritesInside, WritesRename, WritesSet};
-ghost use Rattle.toml_editor.specs.Made.{MakesEdit, MakesEdits, RefusesEdit, RefusesEdits, places_in};
-ghost use Rattle.toml_editor.specs.Making.{HasNames, IsMade, IsMany, TellsRow};
+ghost use Rattle.toml_editor.specs.Edited.{TakesLastElement};
+ghost use Rattle.toml_editor.specs.Exact.{WritesBelow, WritesEdit, WritesHeader, WritesInsert, WritesInside, WritesRename, WritesSet};
+ghost use Rattle.toml_editor.specs.Made.{MakesEdit, MakesEdits, RefusesEdit, RefusesEdits};
+ghost use Rattle.toml_editor.specs.Making.{HasNames, IsMade, IsMany, MayLackPlace, TellsRow};
 ghost use Rattle.toml_editor.specs.SpelledEdits.{AreSpelled, IsSpelled};
 ghost use Rattle.toml_working.specs.Starting.{NoneIsGone, read_of};
 ghost use Rattle.toml_working.specs.Stands.{KeepsRest, KeepsTexts};
@@ -19,8 +19,7 @@ use toml_layout::{Brackets, open_value};
 use toml_names::{Address, Datum, LineNames, Name, Step};
 use toml_tree::Profile;
 use toml_working::{
-    Above, Before, NewHeader, Tree, innermost_element, is_element_in_value, is_flat,
-    is_right_in_value, parent_of,
+    Above, Before, NewHeader, Tree, innermost_element, is_flat, parent_of,
 };
 
 /// What was read of the document, in the profile, by which the edits are made on its working tree.
@@ -33,8 +32,9 @@ pub(crate) struct Read<'a, 't> {
 
 /// Makes the edits. The first one that is not defined on the data so far, or whose place is spread, or that would leave an
 /// array of tables without an element, is told with its number. Where the edits before it are plain, none that is made sets a
-/// table or an array of which the text has no one value, and one that is told to be spread, or to take a last element, is not
-/// plain, nor held by an array or an inline table in a value.
+/// table or an array of which the text has no one value, or puts a header line right below the value of a line, or below what
+/// stands in one; and one that is told to be spread, or to take a last element, is not plain, nor held by an array or an inline
+/// table in a value.
 pub(crate) fn make_all<'x>(
     alloc: Global,
     tree: &mut Tree<'x>,
@@ -90,7 +90,7 @@ fn make_here<'x>(
     ensures made { OnOk result (MakesEdit read.entry (change edit.now) draft.old draft.new tree.old tree.new) }
     ensures told { IfErr result (RefusesEdit read.entry index (change edit.now) draft.old tree.old) }
 {
-    let spread = may_be_spread(alloc, draft, read, edit, index)?;
+    let spread = may_be_spread(draft, edit);
     let only = is_only_element(draft, edit);
     let flat = removes_flat(draft, edit);
     applied(alloc, draft, edit, index, read.profile)?;
@@ -269,25 +269,17 @@ fn write_header<'x>(
     tree.add_header(read.before, &above, new)
 }
 
-/// Whether the place of the edit with this number may be spread over several expressions.
-fn may_be_spread(
-    alloc: Global,
-    draft: &Draft,
-    read: Read,
-    edit: &Edit,
-    index: usize,
-) -> Result<bool, AllocError>
-    requires { HasNames read }
-    ensures yes { IfOk result (λ spread. IsTrue spread → MayBeSpread (places_in read.entry) index (change edit.now) (drafted draft.now)) }
-    ensures no { IfOk result (λ spread. spread ≡ false → IsOnePlace (change edit.now) (drafted draft.now)) }
+/// Whether the place of the edit may be spread over several expressions, by the data.
+fn may_be_spread(draft: &Draft, edit: &Edit) -> bool
+    ensures yes { IsTrue result → MayLackPlace (change edit.now) (drafted draft.now) }
+    ensures no { result ≡ false → ¬ MayLackPlace (change edit.now) (drafted draft.now) }
 {
-    Ok(match edit {
+    match edit {
         Edit::Set { at, .. } => is_many(draft.found(at)),
         Edit::Insert { at, .. } => matches!(at.steps().last(), Some(Step::Index(_))),
-        Edit::Section { at } => index > 0 || is_right_in_value(alloc, read.names, at)?,
-        Edit::Element { at } => index > 0 || is_element_in_value(alloc, read.names, at)?,
+        Edit::Section { .. } | Edit::Element { .. } => true,
         Edit::Rename { .. } | Edit::Remove { .. } => false,
-    })
+    }
 }
 
 /// Whether it is a table or an array.

@@ -1,22 +1,24 @@
 -- The working tree after a plain section or element stands for the text that it writes.
-use Rattle.std.proofs.Common.{◌≡◌, inl, inr, ℕ, Bool, true, false, ◌&&◌, ◌||◌, None, Some, List, [], ◌∷◌, ◌++◌, map, refl, sym, ap, ap₂, ◌∙◌, subst, subst₂}
-use Rattle.std.specs.Prelude.{is_some, not, option_map, string_bytes}
+use Rattle.std.proofs.Common.{◌≡◌, ℕ, Bool, true, false, ◌&&◌, ◌||◌, None, List, [], ◌∷◌, ◌++◌, map, refl, sym, ap, ap₂, ◌∙◌, subst, subst₂}
+use Rattle.std.specs.Prelude.{is_some, not, string_bytes}
+use Rattle.std.specs.List.{list_any}
 use Rattle.std.specs.declared.alloc.Global.{Global}
 use Rattle.std.specs.declared.string.String.{String}
 use Rattle.std.proofs.lemmas.Bool.{cond-false}
 use Rattle.toml_text.specs.Source.{text_of}
 use Rattle.toml_scalar.specs.Spelling.{spelled}
-use Rattle.toml_tree.specs.Tree.{Line}
+use Rattle.toml_tree.specs.Profiles.{SpellsIn}
+use Rattle.toml_tree.specs.Tree.{Doc, Line}
 use Rattle.toml_tree.specs.declared.profile.Profile.{Profile}
 use Rattle.toml_names.specs.declared.model.address.Step.{Step}
 use Rattle.toml_names.specs.declared.model.address.Step.TheVariants.{Index, Name}
-use Rattle.toml_names.specs.mentions.Mentions.{named}
 use Rattle.toml_names.specs.model.Addresses.{Address, child, element}
 use Rattle.toml_names.specs.model.Data.{Kinds}
 use Rattle.toml_names.proofs.Proved.{lines_are_closed}
 use Rattle.toml_edits.specs.After.{IsAfter}
 use Rattle.toml_edits.specs.Edits.{new_element, new_section}
 use Rattle.toml_edits.specs.Faults.{IsFault}
+use Rattle.toml_edits.specs.declared.fault.EditFault.TheVariants.{NotAName, NotAnElement}
 use Rattle.toml_layout.specs.OpenOutlines.{leaf_text}
 use Rattle.toml_layout.specs.Holders.{parent_of}
 use Rattle.toml_layout.specs.declared.texts.Texts.{Texts}
@@ -27,16 +29,17 @@ use Rattle.toml_working.specs.declared.working.Tree.{Tree}
 use Rattle.toml_working.specs.AddingHeaders.{IsAsked}
 use Rattle.toml_working.specs.Following.{ArrayIsNotRoot, may_write_blank}
 use Rattle.toml_working.specs.FollowingHeaders.{ends_in_newline}
-use Rattle.toml_working.specs.HeaderStanding.{blank_laid_out, blank_standing, header_laid_out}
+use Rattle.toml_working.specs.HeaderStanding.{blank_standing, header_laid_out, header_standing}
 use Rattle.toml_working.specs.Headers.{element_of, innermost}
 use Rattle.toml_working.specs.Manners.{Manner}
 use Rattle.toml_working.specs.Putting.{manner}
 use Rattle.toml_working.specs.PuttingHeaders.{AreSpellings}
-use Rattle.toml_working.specs.Standing.{Read, standing}
+use Rattle.toml_working.specs.Standing.{Read, holds, standing}
 use Rattle.toml_working.specs.Stands.{KeepsTexts, Stands}
 use Rattle.toml_working.specs.Starting.{NoneIsGone}
 use Rattle.toml_editor.specs.EditedLines.{IsInNoValue, header_put_in, manner_behind}
 use Rattle.toml_editor.specs.Exact.{Follows, IsAt, WritesHeader}
+use Rattle.toml_editor.specs.PlainTexts.{IsSpreadIn}
 use Rattle.toml_editor.specs.SpelledEdits.{AreSteps, step_spelled}
 use Rattle.toml_editor.specs.Steps.{IsPlain}
 use Rattle.toml_editor.proofs.written.ElementFacts.{element_room}
@@ -69,6 +72,20 @@ still_may false true false = refl
 still_may false false true = refl
 still_may false false false = refl
 
+-- what is answered of a header line: what then stands, and that it is put in, or that a line's value stands right above or holds what does
+pub header_told : (profile : Profile) (read : Read) (old new : Tree) (brackets : Brackets) (p q : Address) (last : Step) (text : List ℕ) (kinds : Kinds)
+    (at : IsAt profile read old text kinds) → p ≡ q ++ last ∷ [] → ArrayIsNotRoot q p → (steps : List (String Global)) → AreSteps p steps
+    → (done : Bool) → WritesHeader brackets read p steps old new done → let ss = standing at.good.tree.lines in
+    Stands (text_of old.texts.source) read new.slots.items (header_standing q p brackets (manner old) (may_write_blank old) ss)
+    × (done ≡ not (list_any (holds q) ss))
+    × (new.has_written_blank ≡ (old.has_written_blank || blank_standing q p brackets (manner old) (may_write_blank old) ss))
+header_told profile read old new brackets p q last text kinds at own array steps spells done puts =
+    let lines = at.good.tree.lines in
+    let rules = at.good.good.0 in
+    let asked : IsAsked q p (innermost q) steps = record { right = (last, own); inner = refl; array = array; spells = are_spellings p (map string_bytes steps) spells } in
+    puts q last own asked (standing lines) at.stands (rules_order lines rules)
+    (header_is_taken (manner old).layout q lines at.good.spelled.0.lines.forms rules)
+
 module _ (profile : Profile) (read : Read) (old new : Tree) (brackets : Brackets) (p q : Address) (last : Step) (text : List ℕ) (kinds : Kinds)
     (at : IsAt profile read old text kinds) (own : p ≡ q ++ last ∷ []) (outside : IsInNoValue at.good.tree.lines q) (array : ArrayIsNotRoot q p) (rest : KeepsTexts old new)
     (steps : List (String Global)) (spells : AreSteps p steps) (done : Bool) (puts : WritesHeader brackets read p steps old new done) where
@@ -94,10 +111,7 @@ module _ (profile : Profile) (read : Read) (old new : Tree) (brackets : Brackets
   header_made : (put : List Line) → standing put ≡ header_laid_out (manner old).layout q p brackets (manner old) (may_write_blank old) (standing lines)
       → (done ≡ true) × Stands (text_of new.texts.source) read new.slots.items (standing put) × (manner new ≡ manner_behind brackets p (manner old) lines)
   header_made put laid =
-      let rules = at.good.good.0 in
-      let asked : IsAsked q p (innermost q) steps = record { right = (last, own); inner = refl; array = array; spells = are_spellings p (map string_bytes steps) spells } in
-      let (stands, told, blank) = puts q last own asked (standing lines) at.stands (rules_order lines rules)
-      (header_is_taken (manner old).layout q lines at.good.spelled.0.lines.forms rules) in (
+      let (stands, told, blank) = header_told profile read old new brackets p q last text kinds at own array steps spells done puts in (
         told ∙ ap not outside,
         subst₂ (λ (s : Texts) ls. Stands (text_of s.source) read new.slots.items ls) (sym rest.texts) (cond-false _ _ _ outside ∙ sym laid) stands,
         header_manner blank,
@@ -144,3 +158,43 @@ element_follows profile read old new p text kinds now at none is_after (q, i, ow
     no_child : (r : Address) (n : List ℕ) → ¬ ([] ≡ child r n)
     no_child [] n h = cc
     no_child (t ∷ r) n h = cc
+
+-- ---- where a header line is not put in
+
+-- an array below the root is no element of it
+below_root : (q p : Address) (s : Step) → p ≡ q ++ s ∷ [] → ((i : ℕ) → ¬ (p ≡ element [] i)) → ArrayIsNotRoot q p
+below_root q p s own none some root = by s (own ∙ ap (λ x. x ++ s ∷ []) root)
+  where
+    by : (t : Step) → ¬ (p ≡ t ∷ [])
+    by (Name n) is = (let x : is_some (element_of (Name n ∷ [])) ≡ true = subst (λ x. is_some (element_of x) ≡ true) is some in cc)
+    by (Index i) is = none i is
+
+-- right above stands a line's value, or what one holds: it is not put in
+refused : (profile : Profile) (read : Read) (old new : Tree) (brackets : Brackets) (p q : Address) (last : Step) (text : List ℕ) (kinds : Kinds)
+    → IsAt profile read old text kinds → p ≡ q ++ last ∷ [] → ArrayIsNotRoot q p → (steps : List (String Global)) → AreSteps p steps
+    → (done : Bool) → WritesHeader brackets read p steps old new done → ((d : Doc) → SpellsIn profile d text → ¬ IsInNoValue d.lines q) → done ≡ false
+refused profile read old new brackets p q last text kinds at own array steps spells done puts inside = by (list_any (holds q) (standing at.good.tree.lines)) refl
+  where
+    by : (b : Bool) → list_any (holds q) (standing at.good.tree.lines) ≡ b → done ≡ false
+    by false is = absurd (inside at.good.tree at.good.spelled is)
+    by true is = (header_told profile read old new brackets p q last text kinds at own array steps spells done puts).1 ∙ ap not is
+
+-- so it is of a section
+pub section_refused : (profile : Profile) (read : Read) (old new : Tree) (p : Address) (text : List ℕ) (kinds : Kinds) → IsAt profile read old text kinds
+    → IsFault profile (new_section p) kinds None → (steps : List (String Global)) → AreSteps p steps → (done : Bool)
+    → WritesHeader One read p steps old new done → IsSpreadIn profile text (new_section p) → done ≡ false
+section_refused profile read old new p text kinds at none steps spells done puts (q, last, own, inside) =
+    refused profile read old new One p q last text kinds at own (below_root q p last own (λ i is. none NotAName ([], i, is))) steps spells done puts inside
+
+-- and of an element
+pub element_refused : (profile : Profile) (read : Read) (old new : Tree) (p : Address) (text : List ℕ) (kinds : Kinds) → IsAt profile read old text kinds
+    → IsFault profile (new_element p) kinds None → (steps : List (String Global)) → AreSteps p steps → (done : Bool)
+    → WritesHeader Two read p steps old new done → IsSpreadIn profile text (new_element p) → done ≡ false
+element_refused profile read old new p text kinds at none steps spells done puts (q, last, own, inside) =
+    refused profile read old new Two p q last text kinds at own
+    (below_root q p last own (λ i is. none NotAnElement (λ r n j other. not_long r n i j (sym is ∙ other)))) steps spells done puts inside
+  where
+    not_long : (r : Address) (n : List ℕ) (i j : ℕ) → ¬ (element [] i ≡ element (child r n) j)
+    not_long [] n i j h = cc
+    not_long (t ∷ []) n i j h = cc
+    not_long (t ∷ u ∷ r) n i j h = cc

@@ -12,8 +12,8 @@ use Rattle.toml_names.specs.model.Data.{IsFact, Kinds}
 use Rattle.toml_edits.specs.declared.fault.EditFault.TheVariants.{NoSuchPlace}
 use Rattle.toml_edits.specs.Edits.{Change, set, insert, rename, remove, new_section, new_element}
 use Rattle.toml_edits.specs.Faults.{IsFault}
-use Rattle.toml_editor.specs.Exact.{SetsMany}
-use Rattle.toml_editor.specs.PlainTexts.{IsSpreadSet}
+use Rattle.toml_editor.specs.Making.{MayLackPlace}
+use Rattle.toml_editor.specs.PlainTexts.{IsSpreadIn}
 use Rattle.toml_editor.specs.Steps.{IsGoodText}
 use Rattle.toml_working.specs.Written.{HasValue}
 use Rattle.toml_editor.proofs.Each.{each_append}
@@ -77,18 +77,18 @@ scalar_has_value lines p v fact =
     (has_each IsLone (λ m. (m.address ≡ p) × (m.kind ≡ a_scalar v)) (λ m. (m.address ≡ p) × (is_lone m.role ≡ true)) (λ m lone at. (at.0, lone v at.1))
     (named lines) (from_lone lines (root ∷ []) 0 ((λ w is. cc), tt)) (has_of_any _ (named lines) fact))
 
--- a `set` without a fault, where the lines have no one value, is of a table or an array
-pub sets_many : (profile : Profile) (text : List ℕ) (kinds : Kinds) (c : Change) → IsGoodText profile text kinds → IsFault profile c kinds None
-    → IsSpreadSet profile text c → SetsMany c kinds
-sets_many profile text kinds (set p value) good none spread = by (kinds p) refl
+-- where the lines have no one place for an edit without a fault, a `set` is of a table or an array
+pub may_lack : (profile : Profile) (text : List ℕ) (kinds : Kinds) (c : Change) → IsGoodText profile text kinds → IsFault profile c kinds None
+    → IsSpreadIn profile text c → MayLackPlace c kinds
+may_lack profile text kinds (set p value) good none spread = by (kinds p) refl
   where
-    by : (there : Option Kind) → kinds p ≡ there → SetsMany (set p value) kinds
+    by : (there : Option Kind) → kinds p ≡ there → MayLackPlace (set p value) kinds
     by None is = absurd (none NoSuchPlace is)
     by (Some a_table) is = inl is
     by (Some an_array) is = inr is
     by (Some (a_scalar v)) is = absurd (spread good.tree good.spelled (scalar_has_value good.tree.lines p v ((good.facts p (a_scalar v)).0 is)))
-sets_many profile text kinds (insert p value) good none spread = spread
-sets_many profile text kinds (rename p to) good none spread = spread
-sets_many profile text kinds (remove p) good none spread = spread
-sets_many profile text kinds (new_section p) good none spread = spread
-sets_many profile text kinds (new_element p) good none spread = spread
+may_lack profile text kinds (insert p value) good none spread = absurd spread
+may_lack profile text kinds (rename p to) good none spread = absurd spread
+may_lack profile text kinds (remove p) good none spread = absurd spread
+may_lack profile text kinds (new_section p) good none spread = tt
+may_lack profile text kinds (new_element p) good none spread = tt

@@ -4,7 +4,6 @@ use Rattle.toml_text.specs.Source.{text_of}
 use Rattle.toml_names.specs.model.AddressSets.{is_hidden}
 use Rattle.toml_names.specs.model.Data.{fact_at}
 use Rattle.toml_names.specs.model.Hidden.{beside}
-use Rattle.toml_names.specs.model.Places.{place}
 use Rattle.toml_names.specs.mentions.Mentions.{named}
 use Rattle.toml_names.specs.reader.LineNames.{AreDataNear}
 use Rattle.toml_edits.specs.Drafts.{drafted}
@@ -16,7 +15,7 @@ use Rattle.toml_editor.proofs.Answered.{if_ok_two}
 use Rattle.toml_editor.proofs.Judgements.{any_tells}
 use Rattle.toml_editor.proofs.NearFaults.{any_of_all, has_data}
 use Rattle.toml_editor.proofs.SourceKept.{as_read}
-use Rattle.toml_editor.proofs.PassedSpread.{no_spread_set, stops_told}
+use Rattle.toml_editor.proofs.PassedSpread.{none_is_spread, stops_told}
 use Rattle.toml_editor.proofs.ReadDocuments.{is_document, is_read_of, spelled, tree}
 use Rattle.toml_editor.proofs.PlainMade.{last_written, plain_written}
 use Rattle.toml_editor.proofs.editing.make_text.Goals as goal
@@ -37,7 +36,7 @@ returns-clause-told c =
     let told = c.in-Err-make_all.ensures.told in
     let opened = c.in-Ok.ensures in
     let fault = c.in-Err-make_all.fault in
-    let any = any_of_all profile (place (named d.lines)) (is_hidden c.args.touched.now) old cs c.requires.touched part near fault told.told in
+    let any = any_of_all profile (is_hidden c.args.touched.now) old cs c.requires.touched part near fault told.told in
     let both = stops_told profile (read_of c.args.read.before) d text c.in-Ok.tree document
     spells opened.stands (ap (λ (t : Texts). text_of t.source) opened.texts_are) opened.elements c.args.layout
     (as_read c.args.layout _ c.in-Ok.tree d opened.texts_are refl opened.style opened.blank spells)
@@ -75,7 +74,7 @@ returns-in-Ok-make_all-clause-made c =
           (beside (is_hidden c.args.touched.now) old new) c.make_all.new.tree (string_bytes made.text) facts leads
           c.in-Ok-make_all.ensures.made.done.holds written;
       passed =
-          no_spread_set profile (read_of c.args.read.before) d text c.in-Ok.tree document
+          none_is_spread profile (read_of c.args.read.before) d text c.in-Ok.tree document
           spells opened.stands (ap (λ (t : Texts). text_of t.source) opened.texts_are) opened.elements c.args.layout mannered
           (is_hidden c.args.touched.now) cs c.requires.touched old facts part near
           (length cs) c.in-Ok-make_all.ensures.made.done.passes;

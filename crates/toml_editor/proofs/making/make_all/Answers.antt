@@ -4,7 +4,6 @@ use Rattle.toml_edits.specs.Drafts.{drafted}
 use Rattle.toml_edits.specs.Edits.{change}
 use Rattle.toml_edits.specs.Lists.{Lead}
 use Rattle.toml_editor.specs.Exact.{HoldsLast, MakesAll}
-use Rattle.toml_editor.specs.Made.{places_in}
 use Rattle.toml_working.specs.Starting.{read_of}
 use Rattle.toml_editor.proofs.MadeEdits.{any_of_one, get_map, led_on, take_map, taken_on}
 use Rattle.toml_editor.proofs.MakesExact.{last_made, more_made, more_passed, none_last, none_made, none_passed, stops_at}
@@ -59,14 +58,13 @@ returns-in-Err-clause-told c =
     let edit = c.index-edits-index.result in
     let profile = c.args.read.profile in
     let read = read_of c.args.read.before in
-    let places = places_in c.args.read in
     let says = c.in-Err.ensures.told in
     let old = c.args.tree.now in
     let near = drafted c.args.draft.now in
     let part = drafted here.draft in
     record {
-      told = any_of_one profile places edits here.index edit near part c.in-Err.fault (omega arith) c.index-edits-index.is here.invariant.0 says.told;
-      stops = stops_at profile read places (map change edits) near part here.index (change edit) old here.tree c.in-Err.fault here.invariant.2
+      told = any_of_one profile edits here.index edit near part c.in-Err.fault (omega arith) c.index-edits-index.is here.invariant.0 says.told;
+      stops = stops_at profile read (map change edits) near part here.index (change edit) old here.tree c.in-Err.fault here.invariant.2
           (subst (λ ds. MakesAll profile read ds old here.tree) (sym (take_map here.index edits)) here.invariant.1)
           (get_map edits here.index edit (omega arith) c.index-edits-index.is) says.told says.neither;
     }

@@ -1,6 +1,5 @@
 use Rattle.std.proofs.Common.{inl, inr, refl}
 use Rattle.toml_edits.specs.Drafts.{drafted}
-use Rattle.toml_editor.specs.Made.{places_in}
 use Rattle.toml_editor.proofs.MakesExact.{holds_one, makes_one, not_last, not_spread, passes_one}
 use Rattle.toml_editor.proofs.Shapes.{made_is, not_made_is}
 use Rattle.toml_editor.proofs.making.make_here.Goals as goal
@@ -13,13 +12,13 @@ returns-clause-made c = record {
     holds = holds_one _ _ (drafted c.args.draft.now) _ _ _ c.in_ok-done.done c.in_ok-done.ensures
         (elim (made_is c.in_ok-done.done _ _ c.not_made-is_spread.ensures c.if-is_spread.false) [
           | inl h ↦ inl h
-          | inr h ↦ inr (c.in_ok-spread.ensures.no h)
+          | inr h ↦ inr (c.may_be_spread-spread.ensures.no h)
         ]);
     passes =
         passes_one _ _ (drafted c.args.draft.now) _ _ _ c.in_ok-done.done c.in_ok-done.ensures
         (elim (made_is c.in_ok-done.done _ _ c.not_made-is_spread.ensures c.if-is_spread.false) [
           | inl h ↦ inl h
-          | inr h ↦ inr (c.in_ok-spread.ensures.no h)
+          | inr h ↦ inr (c.may_be_spread-spread.ensures.no h)
         ]);
   };
 }
@@ -27,11 +26,11 @@ returns-clause-made c = record {
 pub returns-then-is_spread-clause-told : goal.returns-then-is_spread-clause-told
 returns-then-is_spread-clause-told c =
     let both = not_made_is c.in_ok-done.done _ _ c.not_made-is_spread.ensures c.if-is_spread.true in
-    let may = c.in_ok-spread.ensures.yes both.1 in
+    let may = c.may_be_spread-spread.ensures.yes both.1 in
     record {
       told = (refl, (c.in_ok-applied.ensures.ok.0, may));
       neither =
-          not_spread _ _ (places_in c.args.read) c.args.index (drafted c.args.draft.now) _ _ _ c.in_ok-done.done c.in_ok-done.ensures both.0 may;
+          not_spread _ _ (drafted c.args.draft.now) _ _ _ c.in_ok-done.done c.in_ok-done.ensures both.0 may;
     }
 
 pub returns-then-is_last-clause-told : goal.returns-then-is_last-clause-told
