@@ -16,7 +16,7 @@ use Rattle.toml_one.proofs.Proved.{EndsTooDeep, IsCut, deep_is_refused, whole_or
 use Rattle.toml_checker.specs.Documents.{AreDefined, OfData}
 use Rattle.toml_editor.specs.CertifiedLists.{ArePlain}
 use Rattle.toml_editor.specs.Edited.{IsEditedWith, MayBeSpread, OfDefined, OnDataSoFar, SoFar, TakesLastElement, TellsWith}
-use Rattle.toml_editor.specs.PlainTexts.{AfterPlain, IsPlainOrHeld, IsSpreadSet, IsNeitherPlainNorHeld, NoSpreadSet}
+use Rattle.toml_editor.specs.PlainTexts.{AfterPlain, IsPlainOrHeld, IsSpreadIn, IsNeitherPlainNorHeld, NoneIsSpread}
 use Rattle.toml_editor.specs.Steps.{AreWritten}
 use Rattle.toml_editor.specs.declared.fault.EditorFault.{EditorFault}
 use Rattle.toml_editor.specs.declared.fault.EditorFault.TheVariants as faults
@@ -67,8 +67,8 @@ module _ (layout : Layout) (profile : Profile) (before : List ℕ) (some left : 
     neither_edit : IsNeitherPlainNorHeld layout profile before some k → IsNeitherPlainNorHeld layout profile before (some ++ left) k
     neither_edit (d, spells, none) = (d, spells, after_plain d (λ c text. ¬ IsPlainOrHeld profile text c) none)
 
-  no_spread : (n : ℕ) → n ≤ length some → NoSpreadSet layout profile before some n → NoSpreadSet layout profile before (some ++ left) n
-  no_spread n within (d, spells, none) = (d, spells, λ k low. after_plain k (omega (arith, within, low)) d (λ c text. ¬ IsSpreadSet profile text c) (none k low))
+  no_spread : (n : ℕ) → n ≤ length some → NoneIsSpread layout profile before some n → NoneIsSpread layout profile before (some ++ left) n
+  no_spread n within (d, spells, none) = (d, spells, λ k low. after_plain k (omega (arith, within, low)) d (λ c text. ¬ IsSpreadIn profile text c) (none k low))
 
   is_within : (k : ℕ) (P : Change → Kinds → Type 0) → OnDataSoFar profile before some k P → k < length some
   is_within k P (d, spells, old, facts, (mid, lead, c, is, holds)) = slice_get_within some k c is
