@@ -82,10 +82,10 @@ module _ (layout : Layout) (profile : Profile) (before : List ℕ) (some left : 
       let P : Change → Kinds → Type 0 = λ c kinds. IsFault profile c kinds (Some fault) in
       let low = is_within index P on in
       (document, data_so_far index low P on, no_spread index (below index low) none)
-  tells ends (faults.Spread index) (document, (d, spells, on), plain, none) =
-      let P : Change → Kinds → Type 0 = OfDefined profile (MayBeSpread (place (named d.lines)) index) in
+  tells ends (faults.Spread index) (document, on, plain, none) =
+      let P : Change → Kinds → Type 0 = OfDefined profile MayBeSpread in
       let low = is_within index P on in
-      (document, (d, spells, data_so_far index low P on), neither_edit index low plain, no_spread index (below index low) none)
+      (document, data_so_far index low P on, neither_edit index low plain, no_spread index (below index low) none)
   tells ends (faults.LastElement index) (document, on, plain, none) =
       let P : Change → Kinds → Type 0 = OfDefined profile TakesLastElement in
       let low = is_within index P on in

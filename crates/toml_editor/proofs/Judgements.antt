@@ -30,7 +30,6 @@ use Rattle.toml_editor.specs.declared.fault.EditorFault.{EditorFault}
 use Rattle.toml_editor.specs.declared.fault.EditorFault.TheVariants as faults
 use Rattle.toml_editor.specs.Faults.{of_syntax, of_names}
 use Rattle.toml_editor.specs.declared.fault.EditorFault.TheVariants.{Text}
-use Rattle.toml_editor.proofs.SpreadTold.{spread_told}
 
 -- ---- refusals
 
@@ -66,8 +65,7 @@ pub any_tells : (layout : Layout) (profile : Profile) (before : List ℕ) (cs : 
     → Spells d before → IsDataOf (named d.lines) old → TellsAny profile cs old fault
     → OfNumber (NoneIsSpread layout profile before cs) fault → OfNoPlaceAt (IsNeitherPlainNorHeld layout profile before cs) fault → TellsWith layout profile before cs fault
 any_tells layout profile before cs d old (faults.Edit i f) document spelled facts h passed not = (document, (d, spelled, old, facts, h), passed)
-any_tells layout profile before cs d old (faults.Spread i) document spelled facts h passed not =
-    (document, (d, spelled, (d, spelled, old, facts, spread_told layout profile before cs d old document spelled facts i h not)), not, passed)
+any_tells layout profile before cs d old (faults.Spread i) document spelled facts h passed not = (document, (d, spelled, old, facts, h), not, passed)
 any_tells layout profile before cs d old (faults.LastElement i) document spelled facts h passed not = (document, (d, spelled, old, facts, h), not, passed)
 any_tells layout profile before cs d old faults.NoMemory document spelled facts h passed not = tt
 any_tells layout profile before cs d old (faults.Text f) document spelled facts h passed not = absurd h

@@ -4,8 +4,6 @@ pub mod MakesExact
 pub mod PlainMade
 pub mod OneChanged
 pub mod PassedSpread
-mod HeaderData
-mod SpreadTold
 pub mod Judgements
 pub mod PlainAnswers
 mod PlainJudged

@@ -19,8 +19,8 @@ use Rattle.toml_working.specs.declared.working.Tree.{Tree}
 use Rattle.toml_editor.specs.Exact.{DoneOne}
 use Rattle.toml_editor.specs.Made.{MakesEdit, RefusesEdit}
 use Rattle.toml_editor.specs.declared.making.Read.{Read}
-use Rattle.toml_editor.specs.Edited.{SoFar, OfDefined, TakesLastElement}
-use Rattle.toml_editor.specs.Making.{IsMade, MayLackPlace, TellsOne, TellsAny}
+use Rattle.toml_editor.specs.Edited.{SoFar, OfDefined, TakesLastElement, MayBeSpread}
+use Rattle.toml_editor.specs.Making.{IsMade, TellsOne, TellsAny}
 use Rattle.toml_editor.specs.declared.fault.EditorFault.{EditorFault}
 use Rattle.toml_editor.specs.declared.fault.EditorFault.TheVariants as faults
 
@@ -58,7 +58,7 @@ so_far profile es i j e old mid P low is lead same p =
 
 pub any_of_one : (profile : Profile) (es : List Given) (i : ℕ) (e : Given) (old mid : Kinds) (fault : EditorFault) → i < length es → e ≡ get_or es i e → Lead profile (map change (take i es)) old mid → TellsOne profile i (change e) mid fault → TellsAny profile (map change es) old fault
 any_of_one profile es i e old mid (faults.Edit j f) low is lead h = so_far profile es i j e old mid (λ c kinds. IsFault profile c kinds (Some f)) low is lead h.0 h.1
-any_of_one profile es i e old mid (faults.Spread j) low is lead h = so_far profile es i j e old mid (OfDefined profile MayLackPlace) low is lead h.0 h.1
+any_of_one profile es i e old mid (faults.Spread j) low is lead h = so_far profile es i j e old mid (OfDefined profile MayBeSpread) low is lead h.0 h.1
 any_of_one profile es i e old mid (faults.LastElement j) low is lead h = so_far profile es i j e old mid (OfDefined profile TakesLastElement) low is lead h.0 h.1
 any_of_one profile es i e old mid faults.NoMemory low is lead h = tt
 any_of_one profile es i e old mid (faults.Text f) low is lead h = absurd h

@@ -22,11 +22,11 @@ use Rattle.toml_editor.specs.declared.fault.EditorFault.{EditorFault}
 use Rattle.toml_editor.specs.declared.fault.EditorFault.TheVariants as faults
 use Rattle.toml_working.specs.declared.working.Tree.{Tree}
 use Rattle.toml_editor.specs.CertifiedLists.{ArePlain}
-use Rattle.toml_editor.specs.Edited.{TakesLastElement}
+use Rattle.toml_editor.specs.Edited.{TakesLastElement, MayBeSpread}
 use Rattle.toml_editor.specs.LastTexts.{ChangesLines, IsInContainer, IsPutThere}
 use Rattle.toml_editor.specs.Exact.{Follows, HoldsOne, IsAt, IsSpreadOn, IsNeitherAt, IsNeitherOn, HoldsLast, MakesAll, MakesOne, OfPlain, OfNoPlaceAt, PassesAll, PassesAt, PassesOne, Stops, WritesEdit}
 use Rattle.toml_working.specs.Putting.{manner}
-use Rattle.toml_editor.specs.Making.{MayLackPlace, TellsOne}
+use Rattle.toml_editor.specs.Making.{TellsOne}
 use Rattle.toml_editor.specs.PlainTexts.{HasContainerFor, IsPlainOrHeld, IsPlainOn}
 use Rattle.toml_text.specs.Source.{text_of}
 use Rattle.toml_layout.specs.declared.texts.Texts.{Texts}
@@ -82,14 +82,14 @@ put_there : (q : Address) (last : Step) (lines : List Line) → IsPutThere lines
 put_there q (Index i) lines there = there
 put_there q (Name n) lines held = parent_held q (Name n) (standing lines) held
 
-put_is_made : (near : Kinds) (p : Address) (value : List ℕ) (lines : List Line) (done : Bool) → (done ≡ true) ⊎ (¬ MayLackPlace (insert p value) near)
+put_is_made : (near : Kinds) (p : Address) (value : List ℕ) (lines : List Line) (done : Bool) → (done ≡ true) ⊎ (¬ MayBeSpread (insert p value) near)
     → done ≡ list_any (has_container_at p) (standing lines) → (q : Address) (last : Step) → p ≡ q ++ last ∷ [] → IsPutThere lines q last → done ≡ true
 put_is_made near p value lines done (inl made) told q last is there = made
 put_is_made near p value lines done (inr one) told q (Index i) is there = absurd (one (q, i, is))
 put_is_made near p value lines done (inr one) told q (Name n) is there = told ∙ ap (λ a. list_any (has_container_at a) (standing lines)) is ∙ there
 
 pub holds_one : (profile : Profile) (read : Read) (near : Kinds) (c : Change) (old new : Tree) (done : Bool) → WritesEdit profile read c old new done
-    → (done ≡ true) ⊎ (¬ MayLackPlace c near) → HoldsOne profile read c old new
+    → (done ≡ true) ⊎ (¬ MayBeSpread c near) → HoldsOne profile read c old new
 holds_one profile read near (insert p value) old new done writes either text kinds now at is_after (q, last, is, not_root, there) =
     let (steps, rest, spelled, inserts, inside, below) = writes at.whole in
     let given = is_after.1.value in
@@ -151,7 +151,7 @@ taken_is_found profile read p old new done writes text kinds at held =
 
 -- one that is not made, and whose place may be spread, has no one place
 pub not_spread : (profile : Profile) (read : Read) (seen : Kinds) (c : Change) (old new : Tree) (done : Bool)
-    → WritesEdit profile read c old new done → done ≡ false → MayLackPlace c seen → IsNeitherOn profile read c old
+    → WritesEdit profile read c old new done → done ≡ false → MayBeSpread c seen → IsNeitherOn profile read c old
 not_spread profile read seen (set p value) old new done writes is may text kinds now at none is_after one =
     true≢false (sym (set_made profile read p value old new done writes text kinds now at none is_after plain).0 ∙ is)
   where
@@ -196,7 +196,7 @@ not_last profile read seen (new_element p) old new done writes is takes text kin
 
 -- where one is made, or the data tell that it has one place, that is not spread
 pub passes_one : (profile : Profile) (read : Read) (near : Kinds) (c : Change) (old new : Tree) (done : Bool) → WritesEdit profile read c old new done
-    → (done ≡ true) ⊎ (¬ MayLackPlace c near) → PassesOne profile read near c old
+    → (done ≡ true) ⊎ (¬ MayBeSpread c near) → PassesOne profile read near c old
 passes_one profile read near (set p value) old new done writes (inl is) text kinds now at none is_after same spread =
     let (rest, sets) = writes at.whole in
     let given = is_after.1.value in

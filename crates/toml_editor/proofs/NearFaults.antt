@@ -21,8 +21,8 @@ use Rattle.toml_edits.specs.Edits as edits
 use Rattle.toml_edits.specs.Faults.{IsFault}
 use Rattle.toml_edits.specs.Near.{AreNear, IsNear}
 use Rattle.toml_edits.proofs.Proved.{leads_beside, fault_beside}
-use Rattle.toml_editor.specs.Edited.{SoFar, OfDefined, TakesLastElement}
-use Rattle.toml_editor.specs.Making.{MayLackPlace, TellsAny}
+use Rattle.toml_editor.specs.Edited.{SoFar, OfDefined, TakesLastElement, MayBeSpread}
+use Rattle.toml_editor.specs.Making.{TellsAny}
 use Rattle.toml_editor.specs.declared.fault.EditorFault.{EditorFault}
 use Rattle.toml_editor.specs.declared.fault.EditorFault.TheVariants as faults
 
@@ -49,7 +49,7 @@ place_shown hidden c old new is = shown hidden old new (place c) (is.fronts (pla
 fault_on : (profile : Profile) (hidden : Cover) (old : Kinds) (found : Option EditFault) (c : Change) (mid : Kinds) → IsNear hidden c → IsFault profile c mid found → IsFault profile c (beside hidden old mid) found
 fault_on profile hidden old found c mid is h = fault_beside profile hidden c old mid is found h
 
-spread_on : (hidden : Cover) (old : Kinds) (c : Change) (mid : Kinds) → IsNear hidden c → MayLackPlace c mid → MayLackPlace c (beside hidden old mid)
+spread_on : (hidden : Cover) (old : Kinds) (c : Change) (mid : Kinds) → IsNear hidden c → MayBeSpread c mid → MayBeSpread c (beside hidden old mid)
 spread_on hidden old (edits.set at value) mid is (inl e) = inl (sym (place_shown hidden (edits.set at value) old mid is) ∙ e)
 spread_on hidden old (edits.set at value) mid is (inr e) = inr (sym (place_shown hidden (edits.set at value) old mid is) ∙ e)
 spread_on hidden old (edits.insert at value) mid is h = h
@@ -77,7 +77,7 @@ module _ (profile : Profile) (hidden : Cover) (old : Kinds) (cs : List Change) (
 
   any_near : (fault : EditorFault) → TellsAny profile cs (near hidden old) fault → TellsAny profile cs old fault
   any_near (faults.Edit i f) h = so i (λ c kinds. IsFault profile c kinds (Some f)) (fault_on profile hidden old (Some f)) h
-  any_near (faults.Spread i) h = so i (OfDefined profile MayLackPlace) (defined_on MayLackPlace (spread_on hidden old)) h
+  any_near (faults.Spread i) h = so i (OfDefined profile MayBeSpread) (defined_on MayBeSpread (spread_on hidden old)) h
   any_near (faults.LastElement i) h = so i (OfDefined profile TakesLastElement) (defined_on TakesLastElement (last_on hidden old)) h
   any_near faults.NoMemory h = tt
   any_near (faults.Text f) h = absurd h

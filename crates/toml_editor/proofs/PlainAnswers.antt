@@ -195,8 +195,7 @@ module _ (layout : Layout) (profile : Profile) (before : List ℕ) (cs : List Ch
       let (c, is) = edit_at profile before cs j (λ c kinds. IsFault profile c kinds (Some f)) told.1 in
       absurd (no_fault_before layout profile before cs (length cs) after now so_far j (λ c kinds. IsFault profile c kinds (Some f)) (λ c kinds h. (f, h)) (low j c is) told.1)
   only (faults.Spread j) told =
-      let places = place (named told.1.0.lines) in
-      let (c, is) = edit_at profile before cs j (OfDefined profile (MayBeSpread places j)) told.1.2 in
+      let (c, is) = edit_at profile before cs j (OfDefined profile MayBeSpread) told.1 in
       absurd (no_spread_before layout profile before cs (length cs) after now so_far j c is (low j c is) told.2)
   only (faults.LastElement j) told =
       let (c, is) = edit_at profile before cs j (OfDefined profile TakesLastElement) told.1 in
@@ -276,9 +275,8 @@ module _ (layout : Layout) (profile : Profile) (before : List ℕ) (cs : List Ch
       let same = same_fault fault h j f told.1 in
       inl (sym (ap (λ k. Err (faults.Edit k fault)) same.0 ∙ ap (λ g. Err (faults.Edit j g)) same.1))
   faulty_is_answered fault h (Err (faults.Spread j)) told =
-      let P = MayBeSpread (place (named told.1.0.lines)) j in
-      let (x, x_is) = edit_at profile before cs j (OfDefined profile P) told.1.2 in
-      absurd (no_spread_before layout profile before cs n between mid so_far j x x_is (is_before fault h j P told.1.2) told.2)
+      let (x, x_is) = edit_at profile before cs j (OfDefined profile MayBeSpread) told.1 in
+      absurd (no_spread_before layout profile before cs n between mid so_far j x x_is (is_before fault h j MayBeSpread told.1) told.2)
   faulty_is_answered fault h (Err (faults.LastElement j)) told =
       let (x, x_is) = edit_at profile before cs j (OfDefined profile TakesLastElement) told.1 in
       absurd (no_spread_before layout profile before cs n between mid so_far j x x_is (is_before fault h j TakesLastElement told.1) told.2)
@@ -336,10 +334,10 @@ module _ (layout : Layout) (profile : Profile) (before : List ℕ) (cs : List Ch
       where
         by : (j < n) ⊎ (j ≡ n) ⊎ (n < j) → IsFaultOrMemory (faults.Spread n) (Err (faults.Spread j))
         by (inl low) =
-            let (x, x_is) = edit_at profile before cs j (OfDefined profile (MayBeSpread (place (named told.1.0.lines)) j)) told.1.2 in
+            let (x, x_is) = edit_at profile before cs j (OfDefined profile MayBeSpread) told.1 in
             absurd (no_spread_before layout profile before cs n between mid so_far j x x_is low told.2)
         by (inr (inl same)) = inl (ap (λ k. Err (faults.Spread k)) same)
-        by (inr (inr high)) = absurd (passed_at j (OfDefined profile (MayBeSpread (place (named told.1.0.lines)) j)) told.1.2 high told.3)
+        by (inr (inr high)) = absurd (passed_at j (OfDefined profile MayBeSpread) told.1 high told.3)
     spread_is_answered (Err (faults.LastElement j)) told = by (compare j n)
       where
         by : (j < n) ⊎ (j ≡ n) ⊎ (n < j) → IsFaultOrMemory (faults.Spread n) (Err (faults.LastElement j))

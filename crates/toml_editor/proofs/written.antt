@@ -119,7 +119,6 @@ pub mod UnitsTaken
 pub mod Unplaced
 pub mod Unplain
 pub mod Untouched
-pub mod ValuesAbove
 pub mod Way
 pub mod WayBlock
 pub mod WayComments

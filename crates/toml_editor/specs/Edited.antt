@@ -23,7 +23,6 @@ use Rattle.toml_checker.specs.Outer.{IsOuter}
 use Rattle.toml_checker.specs.Pairs.{IsFirst}
 use Rattle.toml_editor.specs.LastTexts.{WritesLast}
 use Rattle.toml_editor.specs.PlainTexts.{IsNoPlainList, IsNeitherPlainNorHeld, NoneIsSpread, WritesPlain}
-use Rattle.toml_working.specs.InValues.{Places, IsElementInValue, IsRightInValue}
 use Rattle.toml_working.specs.Tidy.{ArePieces}
 use Rattle.toml_layout.specs.declared.layout.Layout.{Layout}
 use Rattle.toml_layout.specs.declared.layout.Layout.TheVariants as layouts
@@ -63,14 +62,13 @@ SoFar profile cs old index P = (mid : Kinds) × Lead profile (take index cs) old
 abbrev pub OnDataSoFar : Profile → List ℕ → List Change → ℕ → (Change → Kinds → Type 0) → Type 0
 OnDataSoFar profile before cs index P = OfData before (λ old. SoFar profile cs old index P)
 
--- A value for a table or an array, or a new element of an array: its place may be spread over lines. A section or an element of an array
--- of tables: of the first edit only where its header line would stand in a value; what later ones stand in tells `IsNeitherPlainNorHeld`.
-abbrev pub MayBeSpread : Places → ℕ → Change → Kinds → Type 0
-MayBeSpread places index (set at value) kinds = (kinds at ≡ Some a_table) ⊎ (kinds at ≡ Some an_array)
-MayBeSpread places index (insert at value) kinds = (q : Address) × (i : ℕ) × (at ≡ element q i)
-MayBeSpread places index (new_section at) kinds = index ≡ 0 → IsRightInValue places at
-MayBeSpread places index (new_element at) kinds = index ≡ 0 → IsElementInValue places at
-MayBeSpread places index _ kinds = ⊥
+-- A text may have no one place for the edit: it sets a table or an array, or puts in an element of an array, or a header line.
+abbrev pub MayBeSpread : Change → Kinds → Type 0
+MayBeSpread (set p value) kinds = (kinds p ≡ Some a_table) ⊎ (kinds p ≡ Some an_array)
+MayBeSpread (insert p value) kinds = (q : Address) × (i : ℕ) × (p ≡ element q i)
+MayBeSpread (new_section p) kinds = Unit {0}
+MayBeSpread (new_element p) kinds = Unit {0}
+MayBeSpread _ kinds = ⊥
 
 -- the removal of the only element of an array
 abbrev pub TakesLastElement : Change → Kinds → Type 0
@@ -106,8 +104,7 @@ TellsWith layout profile before cs (Edit index fault) =
     IsDocumentIn profile before × OnDataSoFar profile before cs index (λ c kinds. IsFault profile c kinds (Some fault))
     × NoneIsSpread layout profile before cs index
 TellsWith layout profile before cs (Spread index) =
-    IsDocumentIn profile before
-    × OfTree before (λ d. OnDataSoFar profile before cs index (OfDefined profile (MayBeSpread (place (named d.lines)) index)))
+    IsDocumentIn profile before × OnDataSoFar profile before cs index (OfDefined profile MayBeSpread)
     × IsNeitherPlainNorHeld layout profile before cs index × NoneIsSpread layout profile before cs index
 TellsWith layout profile before cs (LastElement index) =
     IsDocumentIn profile before × OnDataSoFar profile before cs index (OfDefined profile TakesLastElement)

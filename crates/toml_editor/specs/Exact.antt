@@ -17,13 +17,13 @@ use Rattle.toml_edits.specs.After.{IsAfter}
 use Rattle.toml_edits.specs.Edits.{Change, insert, place, rename, set, remove, new_section, new_element}
 use Rattle.toml_edits.specs.Faults.{IsFault}
 use Rattle.toml_edits.specs.Lists.{Lead}
+use Rattle.toml_editor.specs.Edited.{MayBeSpread}
 use Rattle.toml_editor.specs.declared.fault.EditorFault.{EditorFault}
 use Rattle.toml_editor.specs.declared.fault.EditorFault.TheVariants.{Edit, LastElement, Spread}
 use Rattle.toml_working.specs.declared.working.Tree.{Tree}
 use Rattle.toml_working.specs.Becoming.{TreeRenames}
 use Rattle.toml_editor.specs.CertifiedLists.{ArePlain}
 use Rattle.toml_editor.specs.LastTexts.{ChangesLines, IsInContainer}
-use Rattle.toml_editor.specs.Making.{MayLackPlace}
 use Rattle.toml_layout.specs.declared.tree.Value.{Value as OpenValue}
 use Rattle.toml_layout.specs.Holding.{PutsHeld}
 use Rattle.toml_layout.specs.declared.tree.Brackets.{Brackets}
@@ -139,7 +139,7 @@ IsNeitherOn profile read c tree = (text : List ℕ) (kinds now : Kinds) → IsAt
 
 -- and the text has none
 abbrev pub IsSpreadOn : Profile → List ℕ → Change → Kinds → Type 0
-IsSpreadOn profile text c kinds = MayLackPlace c kinds × IsSpreadIn profile text c
+IsSpreadOn profile text c kinds = MayBeSpread c kinds × IsSpreadIn profile text c
 
 -- The tree stands for no text in which the place of the edit, without a fault, is spread. Of the data those are known that are near the
 -- edit.

@@ -13,7 +13,7 @@ use Rattle.toml_edits.specs.Applied.{IsApplied}
 use Rattle.toml_edits.specs.Drafts.{drafted}
 use Rattle.toml_edits.specs.Edits.{Change, insert, new_element, new_section, set}
 use Rattle.toml_edits.specs.Faults.{IsFault}
-use Rattle.toml_editor.specs.Edited.{SoFar, OfDefined, TakesLastElement}
+use Rattle.toml_editor.specs.Edited.{SoFar, OfDefined, TakesLastElement, MayBeSpread}
 use Rattle.toml_editor.specs.declared.fault.EditorFault.{EditorFault}
 use Rattle.toml_editor.specs.declared.fault.EditorFault.TheVariants.{Edit, Spread, LastElement, NoMemory}
 
@@ -24,14 +24,6 @@ IsMade profile c old new = IsApplied profile c (drafted old) (drafted new)
 -- what was found is a table or an array
 abbrev pub IsMany : Option Datum → Type 0
 IsMany found = (kind_in found [] ≡ Some a_table) ⊎ (kind_in found [] ≡ Some an_array)
-
--- A text may have no one place for the edit: it sets a table or an array, or puts in an element of an array, or a header line.
-abbrev pub MayLackPlace : Change → Kinds → Type 0
-MayLackPlace (set p value) kinds = (kinds p ≡ Some a_table) ⊎ (kinds p ≡ Some an_array)
-MayLackPlace (insert p value) kinds = (q : Address) × (i : ℕ) × (p ≡ element q i)
-MayLackPlace (new_section p) kinds = Unit {0}
-MayLackPlace (new_element p) kinds = Unit {0}
-MayLackPlace _ kinds = ⊥
 
 -- the names are those of the lines of the document
 abbrev pub HasNames : Read → Type 0
@@ -46,7 +38,7 @@ TellsRow profile i c kinds _ = ⊥
 -- the edit with this number has such a fault on the data
 abbrev pub TellsOne : Profile → ℕ → Change → Kinds → EditorFault → Type 0
 TellsOne profile i c kinds (Edit j fault) = (j ≡ i) × IsFault profile c kinds (Some fault)
-TellsOne profile i c kinds (Spread j) = (j ≡ i) × OfDefined profile MayLackPlace c kinds
+TellsOne profile i c kinds (Spread j) = (j ≡ i) × OfDefined profile MayBeSpread c kinds
 TellsOne profile i c kinds (LastElement j) = (j ≡ i) × OfDefined profile TakesLastElement c kinds
 TellsOne profile i c kinds NoMemory = Unit {0}
 TellsOne profile i c kinds _ = ⊥
@@ -54,7 +46,7 @@ TellsOne profile i c kinds _ = ⊥
 -- some edit has it on the data to which those before it lead
 abbrev pub TellsAny : Profile → List Change → Kinds → EditorFault → Type 0
 TellsAny profile cs old (Edit i fault) = SoFar profile cs old i (λ c kinds. IsFault profile c kinds (Some fault))
-TellsAny profile cs old (Spread i) = SoFar profile cs old i (OfDefined profile MayLackPlace)
+TellsAny profile cs old (Spread i) = SoFar profile cs old i (OfDefined profile MayBeSpread)
 TellsAny profile cs old (LastElement i) = SoFar profile cs old i (OfDefined profile TakesLastElement)
 TellsAny profile cs old NoMemory = Unit {0}
 TellsAny profile cs old _ = ⊥

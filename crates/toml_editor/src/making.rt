@@ -3,10 +3,10 @@ ghost use Rattle.std.specs.Prelude.{◌≡◌, IfErr, IfOk, IsTrue, OnOk, false,
 ghost use Rattle.toml_scalar.specs.Spelling.{spelled};
 ghost use Rattle.toml_edits.specs.Drafts.{drafted};
 ghost use Rattle.toml_edits.specs.Edits.{change};
-ghost use Rattle.toml_editor.specs.Edited.{TakesLastElement};
+ghost use Rattle.toml_editor.specs.Edited.{TakesLastElement, MayBeSpread};
 ghost use Rattle.toml_editor.specs.Exact.{WritesBelow, WritesEdit, WritesHeader, WritesInsert, WritesInside, WritesRename, WritesSet};
 ghost use Rattle.toml_editor.specs.Made.{MakesEdit, MakesEdits, RefusesEdit, RefusesEdits};
-ghost use Rattle.toml_editor.specs.Making.{HasNames, IsMade, IsMany, MayLackPlace, TellsRow};
+ghost use Rattle.toml_editor.specs.Making.{HasNames, IsMade, IsMany, TellsRow};
 ghost use Rattle.toml_editor.specs.SpelledEdits.{AreSpelled, IsSpelled};
 ghost use Rattle.toml_working.specs.Starting.{NoneIsGone, read_of};
 ghost use Rattle.toml_working.specs.Stands.{KeepsRest, KeepsTexts};
@@ -271,8 +271,8 @@ fn write_header<'x>(
 
 /// Whether the place of the edit may be spread over several expressions, by the data.
 fn may_be_spread(draft: &Draft, edit: &Edit) -> bool
-    ensures yes { IsTrue result → MayLackPlace (change edit.now) (drafted draft.now) }
-    ensures no { result ≡ false → ¬ MayLackPlace (change edit.now) (drafted draft.now) }
+    ensures yes { IsTrue result → MayBeSpread (change edit.now) (drafted draft.now) }
+    ensures no { result ≡ false → ¬ MayBeSpread (change edit.now) (drafted draft.now) }
 {
     match edit {
         Edit::Set { at, .. } => is_many(draft.found(at)),

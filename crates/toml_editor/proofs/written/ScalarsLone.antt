@@ -12,7 +12,7 @@ use Rattle.toml_names.specs.model.Data.{IsFact, Kinds}
 use Rattle.toml_edits.specs.declared.fault.EditFault.TheVariants.{NoSuchPlace}
 use Rattle.toml_edits.specs.Edits.{Change, set, insert, rename, remove, new_section, new_element}
 use Rattle.toml_edits.specs.Faults.{IsFault}
-use Rattle.toml_editor.specs.Making.{MayLackPlace}
+use Rattle.toml_editor.specs.Edited.{MayBeSpread}
 use Rattle.toml_editor.specs.PlainTexts.{IsSpreadIn}
 use Rattle.toml_editor.specs.Steps.{IsGoodText}
 use Rattle.toml_working.specs.Written.{HasValue}
@@ -79,10 +79,10 @@ scalar_has_value lines p v fact =
 
 -- where the lines have no one place for an edit without a fault, a `set` is of a table or an array
 pub may_lack : (profile : Profile) (text : List ℕ) (kinds : Kinds) (c : Change) → IsGoodText profile text kinds → IsFault profile c kinds None
-    → IsSpreadIn profile text c → MayLackPlace c kinds
+    → IsSpreadIn profile text c → MayBeSpread c kinds
 may_lack profile text kinds (set p value) good none spread = by (kinds p) refl
   where
-    by : (there : Option Kind) → kinds p ≡ there → MayLackPlace (set p value) kinds
+    by : (there : Option Kind) → kinds p ≡ there → MayBeSpread (set p value) kinds
     by None is = absurd (none NoSuchPlace is)
     by (Some a_table) is = inl is
     by (Some an_array) is = inr is
