@@ -42,6 +42,7 @@ pub mod HeaderCounted
 pub mod HeaderFollow
 pub mod HeaderGoes
 pub mod HeaderKept
+pub mod HeaderLaws
 pub mod HeaderLeads
 pub mod HeaderLength
 pub mod HeaderPlace

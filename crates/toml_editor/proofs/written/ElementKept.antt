@@ -21,7 +21,7 @@ use Rattle.toml_working.specs.Headers.{names_of}
 use Rattle.toml_working.specs.Standing.{holds, standing}
 use Rattle.toml_editor.specs.Blocks.{element_block, ends_element}
 use Rattle.toml_editor.proofs.written.Clear.{above_apart}
-use Rattle.toml_editor.proofs.written.ElementNamed.{element_has_names, element_leads, element_named, element_names}
+use Rattle.toml_editor.proofs.written.ElementNamed.{element_has_names, element_leads, element_named, element_is_put}
 use Rattle.toml_editor.proofs.written.HeaderKept.{AreTables, BothGo, IsHeaderBlock, absent_goes, array_goes, header_block, header_moves, header_rules, header_short}
 use Rattle.toml_editor.proofs.written.HeaderLeads.{IsKindAt, fronts_are_tables}
 use Rattle.toml_editor.proofs.written.HeaderPut.{IsHeaderPut}
@@ -77,7 +77,7 @@ pub element_short : (q : Address) (i : ℕ) (style : List ℕ) (old new : List L
     → IsShort (named old) → length (element q i) ≤ max_steps → IsShort (named new)
 element_short q i style old new put is low =
     header_short (IsElementEnd q i) (ends_element i) q (named put.front) (element_block q i) old new (block q i style old new put)
-    (element_names q i style old new put) is array_low ends_low
+    (element_is_put q i style old new put) is array_low ends_low
   where
     array_low : length q ≤ max_steps
     array_low = let long = length-append q (Index i ∷ []) in omega (arith, low, long)
@@ -96,7 +96,7 @@ element_data profile q i style old new kinds after put keeps is next is' = (q, i
         → ((r : Address) (k : Kind) → v r ≡ Some k → Has (IsKindAt (base ++ r) k) (ends_element i q)) → Moves Some base v kinds after
     moved base v comes placed =
         header_moves (IsElementEnd q i) (ends_element i) q (named put.front) (element_block q i) old new base v kinds after (block q i style old new put)
-        (element_names q i style old new put) is is' (passes_tables q i old kinds keeps is next) comes placed
+        (element_is_put q i style old new put) is is' (passes_tables q i old kinds keeps is next) comes placed
 
     -- the array comes with it
     made : kinds q ≡ None → i ≡ 0 → AddsElement q (element q i) (kinds q) kinds after

@@ -73,6 +73,6 @@ module _ (q : Address) (i : ℕ) (style : List ℕ) (old new : List Line) (put :
       ∙ follows xs (ends_element i) q [] element_leads
 
 -- The new lines name what the old ones did, and in one place what the new header names.
-pub element_names : (q : Address) (i : ℕ) (style : List ℕ) (old new : List Line) → IsHeaderPut Two (element q i) style old new
+pub element_is_put : (q : Address) (i : ℕ) (style : List ℕ) (old new : List Line) → IsHeaderPut Two (element q i) style old new
     → IsPut (named_plain old) (element_block q i) (named_plain new)
-element_names q i style old new put = put_names Two (element q i) style old new put (element_block q i) (element_named q i style old new put)
+element_is_put q i style old new put = put_names Two (element q i) style old new put (element_block q i) (element_named q i style old new put)

@@ -20,7 +20,7 @@ use Rattle.toml_working.specs.Headers.{ElementStands, StandInTurn, begins_later,
 use Rattle.toml_working.specs.Seeing.{heads, heads_below, is_sought_line}
 use Rattle.toml_working.specs.Standing.{Standing, standing}
 use Rattle.toml_working.specs.declared.lines.Sought.TheVariants as sought
-use Rattle.toml_editor.specs.HeadersInTurn.{HeaderIsTaken}
+use Rattle.toml_editor.specs.HeaderLaws.{HeaderIsTaken}
 use Rattle.toml_editor.proofs.written.Clear.{same_is}
 use Rattle.toml_editor.proofs.written.Counted.{counts_grow, own_counts, same_last}
 use Rattle.toml_editor.proofs.written.CountedArrays.{element_unnamed, end_named}

@@ -21,7 +21,7 @@ use Rattle.toml_editor.proofs.written.HeaderKept.{IsHeaderBlock, absent_goes, he
 use Rattle.toml_editor.proofs.written.HeaderLeads.{IsKindAt, fronts_are_tables}
 use Rattle.toml_editor.proofs.written.HeaderPut.{IsSectionPut}
 use Rattle.toml_editor.proofs.written.Pairwise.{Has}
-use Rattle.toml_editor.proofs.written.SectionNamed.{IsPutThere, follows, header_names_some, put_there, section_leads, section_named, section_names}
+use Rattle.toml_editor.proofs.written.SectionNamed.{IsPutThere, follows, header_names_some, put_there, section_leads, section_named, section_is_put}
 
 -- the table
 abbrev IsTableEnd : Address → Named → Type 0
@@ -63,7 +63,7 @@ pub section_short : (q : Address) (name style : List ℕ) (old new : List Line) 
 section_short q name style old new put is low =
     let p = child q name in
     header_short (IsTableEnd p) (ends_table 0) p (named put.front) (section_block p) old new (block q name style old new put)
-    (section_names q name style old new put) is low (λ m at. subst (λ a. length a ≤ max_steps) (sym at.0) low)
+    (section_is_put q name style old new put) is low (λ m at. subst (λ a. length a ≤ max_steps) (sym at.0) low)
 
 -- the new lines have the data that the edit makes of those of the old
 pub section_data : (profile : Profile) (q : Address) (name style : List ℕ) (old new : List Line) (kinds after : Kinds) → IsSectionPut (child q name) style old new
@@ -72,7 +72,7 @@ pub section_data : (profile : Profile) (q : Address) (name style : List ℕ) (ol
 section_data profile q name style old new kinds after put keeps is table none is' =
     let p = child q name in
     header_moves (IsTableEnd p) (ends_table 0) p (named put.front) (section_block p) old new p an_empty_table kinds after (block q name style old new put)
-    (section_names q name style old new put) is is' (fronts_are_tables old kinds keeps is q name table)
+    (section_is_put q name style old new put) is is' (fronts_are_tables old kinds keeps is q name table)
     (λ m at. inr ([], at.0 ∙ sym (append-nil p), ap Some (sym at.2))) placed
   where
     placed : (r : Address) (k : Kind) → an_empty_table r ≡ Some k → Has (IsKindAt (child q name ++ r) k) (ends_table 0 (child q name))

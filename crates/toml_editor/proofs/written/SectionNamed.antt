@@ -227,7 +227,7 @@ module _ (p : Address) (style : List ℕ) (old new : List Line) (put : IsSection
       ∙ follows (named put.front) (ends_table 0) p [] section_leads
 
 -- The new lines name what the old ones did, and in one place what the new header names.
-pub section_names : (q : Address) (name style : List ℕ) (old new : List Line) → IsSectionPut (child q name) style old new
+pub section_is_put : (q : Address) (name style : List ℕ) (old new : List Line) → IsSectionPut (child q name) style old new
     → IsPut (named_plain old) (section_block (child q name)) (named_plain new)
-section_names q name style old new put =
+section_is_put q name style old new put =
     put_names One (child q name) style old new put (section_block (child q name)) (section_named (child q name) style old new put)
