@@ -22,15 +22,12 @@ use Rattle.toml_editor.proofs.written.Alike.{alike_self, section_pair}
 use Rattle.toml_editor.proofs.written.Clear.{IsUnder}
 use Rattle.toml_editor.proofs.written.DocumentSections.{begins_longer}
 use Rattle.toml_editor.proofs.written.EmptyAlone.{first_under, under_trans}
+use Rattle.toml_editor.proofs.written.TablesStay.{under_begins}
 use Rattle.toml_editor.proofs.written.UnitsAlike.{step_alike}
 
 -- each array of tables has as many tables in both, or else it is not seen
 abbrev pub AreCountedBut : (Address → Type 0) → List Named → List Named → Type 0
 AreCountedBut Unseen xs ys = (at : Address) → Unseen at ⊎ (count_tables xs at ≡ count_tables ys at)
-
--- what lies at an address or below it begins with it
-pub under_begins : (q a : Address) → IsUnder q a → begins q a ≡ true
-under_begins q a (rest, is) = ap (begins q) is ∙ begins_longer q rest
 
 -- by a line of this address: it stands neither at the array nor below it
 abbrev pub IsUnseen : Option Address → Address → Type 0

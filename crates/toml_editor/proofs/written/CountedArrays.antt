@@ -1,6 +1,7 @@
 -- Where the arrays of tables stand that what is named counts.
 use Rattle.std.proofs.Common.{◌≡◌, ◌∙◌, inl, inr, ℕ, zero, suc, ◌+◌, ◌-◌, ◌==◌, Bool, true, false, cond, Some, List, [], ◌∷◌, ◌++◌, refl, sym, ap, subst, arith}
 use Rattle.std.proofs.lemmas.Bool.Decides.{nat_tests}
+use Rattle.std.proofs.lemmas.List.{same_from_push}
 use Rattle.std.proofs.lemmas.Option.{same_Some}
 use Rattle.toml_tree.specs.Tree.{Expr, BlankLine, KeyValLine, TableLine, ArrayTableLine, Line}
 use Rattle.toml_names.specs.declared.model.address.Step.TheVariants.{Name, Index}
@@ -11,7 +12,8 @@ use Rattle.toml_names.specs.model.Addresses.{Address, child, element, same_addre
 use Rattle.toml_names.specs.reader.Names.{header_end, own_address}
 use Rattle.toml_names.proofs.Proved.{count-append}
 use Rattle.toml_editor.proofs.written.Clear.{same_is}
-use Rattle.toml_editor.proofs.written.Counted.{count_array, count_none, count_pair, count_table, last_step, no_cons, one_if, same_last}
+use Rattle.toml_editor.proofs.written.Closed.{no_end}
+use Rattle.toml_editor.proofs.written.Counted.{count_array, count_none, count_pair, count_table, last_or_earlier, one_if}
 use Rattle.toml_editor.proofs.written.Pairwise.{Has, has_append_left, has_append_right}
 
 -- ---- where arrays of tables stand
@@ -89,10 +91,10 @@ count_unnamed lines r not = by (count_tables (named lines) r) refl
     by (suc k) is = absurd (not (counted_arrays lines r (λ no. absurd (omega (arith, is, no)))).0)
 
 pub element_unnamed : (at : Address) (i : ℕ) → ¬ IsNamedLast (element at i)
-element_unnamed at i (u, n, is) = let same = (same_last at u (Index i) (Name n) is).1 in cc
+element_unnamed at i (u, n, is) = let same = (same_from_push at u (Index i) (Name n) is).1 in cc
 
 pub root_unnamed : ¬ IsNamedLast []
-root_unnamed (u, n, is) = no_cons u (Name n) [] is
+root_unnamed (u, n, is) = no_end u (Name n) [] is
 
 -- ---- the names in the address of a header
 
@@ -106,16 +108,16 @@ module _ (lines : List Line) where
 
   -- it is so of each address along a header's key
   tables_root : AreTables []
-  tables_root r rest n is = absurd (no_cons r (Name n) rest is)
+  tables_root r rest n is = absurd (no_end r (Name n) rest is)
 
   tables_child : (at : Address) (n : List ℕ) → count_tables xs at ≡ 0 → AreTables at → AreTables (child at n)
-  tables_child at n here are r rest m is = elim (last_step at r (Name n) (Name m) rest is) [
+  tables_child at n here are r rest m is = elim (last_or_earlier at r (Name n) (Name m) rest is) [
     | inl same ↦ sym (ap (count_tables xs) same.0) ∙ here
     | inr more ↦ are r more.0 m more.1
   ]
 
   tables_element : (at : Address) (i : ℕ) → AreTables at → AreTables (element at i)
-  tables_element at i are r rest m is = elim (last_step at r (Index i) (Name m) rest is) [
+  tables_element at i are r rest m is = elim (last_or_earlier at r (Index i) (Name m) rest is) [
     | inl same ↦ absurd (let e = same.1 in cc)
     | inr more ↦ are r more.0 m more.1
   ]

@@ -1,5 +1,6 @@
 -- How many tables an array of tables has by the data, and that the key of the header line of its next element leads to that.
 use Rattle.std.proofs.Common.{◌≡◌, ◌∙◌, ◌⊎◌, inl, inr, ℕ, zero, suc, ◌+◌, ◌<◌, ◌≤◌, Bool, true, false, ◌||◌, Some, None, IsSome, List, [], ◌∷◌, ◌++◌, length, length-append, refl, sym, ap, ap₂, subst, true≢false, append-nil, append_assoc, arith}
+use Rattle.std.proofs.lemmas.List.{same_from_push}
 use Rattle.std.specs.Bool.{nat_lt}
 use Rattle.std.specs.List.{list_any}
 use Rattle.std.proofs.lemmas.Bool.Decides.{nat_tests}
@@ -25,7 +26,7 @@ use Rattle.toml_working.specs.Removing.{no_blank}
 use Rattle.toml_working.specs.Seeing.{is_sought_line}
 use Rattle.toml_working.specs.Standing.{Standing, holds, is_below, leads_to, lies_below, standing, standing_from}
 use Rattle.toml_editor.proofs.written.Clear.{IsUnder, below-cons, same_is}
-use Rattle.toml_editor.proofs.written.Counted.{AreLast, count_array, count_next, count_none, count_pair, count_table, counts_grow, last_step, one_if, own_counts, same_last}
+use Rattle.toml_editor.proofs.written.Counted.{AreLast, count_array, count_next, count_none, count_pair, count_table, counts_grow, last_or_earlier, one_if, own_counts}
 use Rattle.toml_editor.proofs.written.CountedArrays.{IsNamedLast, element_unnamed, followed_has}
 use Rattle.toml_editor.proofs.written.DocumentSections.{begins_longer, line_of, named_next}
 use Rattle.toml_editor.proofs.written.ElementHeaded.{some_named, unheaded_unnamed}
@@ -38,10 +39,7 @@ use Rattle.toml_editor.proofs.written.Pairwise.{Has, any_of_has, has_append_left
 use Rattle.toml_editor.proofs.written.SectionFacts.{IsNextElement}
 use Rattle.toml_editor.proofs.written.SectionNamed.{names_of_element}
 use Rattle.toml_editor.proofs.written.StandingOrder.{begins_is}
-
--- what lies at an address or below it begins with it
-pub under_begins : (q a : Address) → IsUnder q a → begins q a ≡ true
-under_begins q a (rest, is) = ap (begins q) is ∙ begins_longer q rest
+use Rattle.toml_editor.proofs.written.TablesStay.{under_begins}
 
 abbrev IsAt : Address → Named → Type 0
 IsAt at m = m.address ≡ at
@@ -170,7 +168,7 @@ module _ (q : Address) where
       by false is = is
       by true is = absurd (elim (begins_is a (element q j) is) [
         | inl same ↦ element_unnamed q j (subst IsNamedLast same (named_below (rest_names pair.assign.key.rest) (part_name pair.assign.key.first) (section xs)))
-        | inr above ↦ elim (last_step q a (Index j) above.0 above.1 above.2) [
+        | inr above ↦ elim (last_or_earlier q a (Index j) above.0 above.1 above.2) [
           | inl here ↦ true≢false (sym (under_begins a q ([], here.0 ∙ sym (append-nil a))) ∙ none)
           | inr more ↦ true≢false (sym (under_begins a q (above.0 ∷ more.0, more.1)) ∙ none)
         ]
@@ -255,7 +253,7 @@ element_leads lines front back r n i ws kinds parts keeps facts table last count
 pub apart_element : (q : Address) (i : ℕ) (front back : List Line) → list_any (is_below q) (standing_from (named front) (length front) back) ≡ false
     → IsApart Two (element q i) front back
 apart_element q i front back none a j is =
-    subst (λ x. list_any (is_below x) (standing_from (named front) (length front) back) ≡ false) (same_last q a (Index i) (Index j) is).0 none
+    subst (λ x. list_any (is_below x) (standing_from (named front) (length front) back) ≡ false) (same_from_push q a (Index i) (Index j) is).0 none
 
 module _ (q : Address) (i : ℕ) (lines : List Line) (kinds : Kinds) (keeps : KeepsRules (named lines)) (facts : IsDataOf (named lines) kinds)
     (next : IsNextElement q i kinds) (outside : list_any (holds q) (standing lines) ≡ false) where

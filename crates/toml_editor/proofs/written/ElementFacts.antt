@@ -1,5 +1,6 @@
 -- What an element without a fault tells of the data.
 use Rattle.std.proofs.Common.{◌≡◌, ◌⊎◌, inl, inr, ℕ, zero, suc, ◌+◌, ◌<◌, ◌≤◌, Option, Some, None, IsSome, List, [], ◌∷◌, ◌++◌, length, refl, sym, ap, subst, ◌∙◌, true≢false}
+use Rattle.std.proofs.lemmas.List.{same_from_push}
 use Rattle.std.specs.Prelude.{MatchOption}
 use Rattle.toml_tree.specs.declared.profile.Profile.{Profile}
 use Rattle.toml_names.specs.declared.model.address.Step.{Step}
@@ -11,7 +12,7 @@ use Rattle.toml_names.specs.model.Data.{IsClosed, Kinds}
 use Rattle.toml_edits.specs.Edits.{new_element}
 use Rattle.toml_edits.specs.Faults.{IsElementOf, IsFault, IsNextIndex}
 use Rattle.toml_edits.specs.declared.fault.EditFault.TheVariants.{AddressLength, IndexOutside, NoSuchPlace, NotAnElement, NotATable}
-use Rattle.toml_editor.proofs.written.Counted.{same_last}
+use Rattle.toml_editor.proofs.written.Closed.{no_end}
 use Rattle.toml_editor.proofs.written.Fitting.{at_most, last_step}
 use Rattle.toml_editor.proofs.written.SectionFacts.{IsNextElement}
 
@@ -21,19 +22,15 @@ module _ (profile : Profile) (q : Address) (i : ℕ) (kinds : Kinds) (closed : I
 
   -- the array is that of a name
   array_of : (r : Address) (n : List ℕ) (j : ℕ) → IsElementOf p r n j → q ≡ child r n
-  array_of r n j is = (same_last q (child r n) (Index i) (Index j) is).0
+  array_of r n j is = (same_from_push q (child r n) (Index i) (Index j) is).0
 
   named_array : (r : Address) × (n : List ℕ) × (q ≡ child r n)
   named_array = by (last_step q)
     where
       by : (q ≡ []) ⊎ ((r : Address) × (s : Step) × (q ≡ r ++ s ∷ [])) → (r : Address) × (n : List ℕ) × (q ≡ child r n)
-      by (inl root) = absurd (none NotAnElement (λ r n j is. no_child r n (sym root ∙ array_of r n j is)))
-        where
-          no_child : (r : Address) (n : List ℕ) → ¬ ([] ≡ child r n)
-          no_child [] n h = cc
-          no_child (t ∷ r) n h = cc
+      by (inl root) = absurd (none NotAnElement (λ r n j is. no_end r (Name n) [] (sym root ∙ array_of r n j is)))
       by (inr (r, Index j, is)) =
-          absurd (none NotAnElement (λ u n k at. (let x = (same_last r u (Index j) (Name n) (sym is ∙ array_of u n k at)).1 in cc)))
+          absurd (none NotAnElement (λ u n k at. (let x = (same_from_push r u (Index j) (Name n) (sym is ∙ array_of u n k at)).1 in cc)))
       by (inr (r, Name n, is)) = (r, n, is)
 
   is_table : (r : Address) (n : List ℕ) → q ≡ child r n → kinds r ≡ Some a_table

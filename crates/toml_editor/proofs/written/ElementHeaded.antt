@@ -23,8 +23,10 @@ use Rattle.toml_working.specs.Headers.{has_below, inner_of, innermost}
 use Rattle.toml_working.specs.Seeing.{heads_below, is_dotted, is_sought_line}
 use Rattle.toml_working.specs.Standing.{Standing, holds, leads_to, standing, standing_from}
 use Rattle.toml_editor.proofs.written.Alike.{alike_self}
+use Rattle.toml_editor.proofs.written.Closed.{no_end}
 use Rattle.toml_editor.proofs.written.DocumentSections.{begins_longer}
 use Rattle.toml_editor.proofs.written.EmptyAlone.{IsAway, NotThere, lines_away, not_any}
+use Rattle.toml_editor.proofs.written.HeadersAlone.{lower}
 use Rattle.toml_editor.proofs.written.Pairwise.{Has, from_has, has_of_any, has_weaker}
 use Rattle.toml_editor.proofs.written.Plain.{behind, plain_is}
 use Rattle.toml_editor.proofs.written.TablesStay.{begins_under}
@@ -110,9 +112,6 @@ module _ (e array : Address) (i : ℕ) (ends : e ≡ array ++ Index i ∷ []) wh
           let (t, rest, split) = (above_is_above e (below (section xs) (key_names pair.assign.key))).0 above in
           absurd (no_index (section xs) array (key_names pair.assign.key) i t rest (split ∙ ap (λ x. x ++ t ∷ rest) ends)
           (subst (λ x. length (section xs) < length x) ends (lower (length (section xs)) (length e) low)))
-        where
-          lower : (m n : ℕ) → nat_lt m n ≡ true → m < n
-          lower m n h = grind (arith, nat_tests)
 
   all_away : (ls : List Line) (xs : List Named) (n : ℕ) → EachIs (λ s. holds e s ≡ false) (standing_from xs n ls)
       → EachIs (λ s. is_sought_line sought.HeaderBelow e s ≡ false) (standing_from xs n ls) → EachIs (IsAway e) (standing_from xs n ls)
@@ -126,11 +125,7 @@ module _ (e array : Address) (i : ℕ) (ends : e ≡ array ++ Index i ∷ []) wh
   )
 
   not_root : ¬ ([] ≡ e)
-  not_root is = no_end array (is ∙ ends)
-    where
-      no_end : (a : Address) → ¬ ([] ≡ a ++ Index i ∷ [])
-      no_end [] h = cc
-      no_end (s ∷ a) h = cc
+  not_root is = no_end array (Index i) [] (is ∙ ends)
 
   -- where no line's value holds it, and no header is there or below, it is not named
   pub unheaded_unnamed : (lines : List Line) → list_any (holds e) (standing lines) ≡ false → has_below e (standing lines) ≡ false

@@ -1,5 +1,6 @@
 -- What is named after a new element of an array of tables.
 use Rattle.std.proofs.Common.{◌≡◌, ℕ, List, [], ◌∷◌, refl, sym, ap, ◌∙◌}
+use Rattle.std.proofs.lemmas.List.{same_from_push}
 use Rattle.std.proofs.lemmas.Option.{same_Some}
 use Rattle.toml_tree.specs.Tree.{Line}
 use Rattle.toml_names.specs.declared.model.address.Step.TheVariants.{Index}
@@ -13,7 +14,6 @@ use Rattle.toml_layout.specs.declared.tree.Brackets.TheVariants.{Two}
 use Rattle.toml_working.specs.Heading.{header_expr, key_named}
 use Rattle.toml_working.specs.Headers.{names_of}
 use Rattle.toml_editor.specs.Blocks.{IsPut, element_block, ends_element, named_plain}
-use Rattle.toml_editor.proofs.written.Counted.{same_last}
 use Rattle.toml_editor.proofs.written.HeaderPut.{IsHeaderPut}
 use Rattle.toml_editor.proofs.written.Plain.{plain_alike}
 use Rattle.toml_editor.proofs.written.SectionNamed.{HasNames, follows, header_names_some, names_of_element, put_block, put_names}
@@ -46,7 +46,7 @@ module _ (q : Address) (i : ℕ) (style : List ℕ) (old new : List Line) (put :
   ends_there : (header_end xs [] key ≡ q) × (Index (count_tables xs (header_end xs [] key)) ≡ Index i)
   ends_there =
       let at = header_end xs [] key in
-      same_last at q (Index (count_tables xs at)) (Index i) (same_Some (element at (count_tables xs at)) (element q i) put.leads)
+      same_from_push at q (Index (count_tables xs at)) (Index i) (same_Some (element at (count_tables xs at)) (element q i) put.leads)
 
   pub element_leads : header_end xs [] (names_of q) ≡ q
   element_leads = ap (header_end xs []) (sym key_is) ∙ ends_there.0

@@ -20,17 +20,18 @@ use Rattle.toml_working.specs.Headers.{element_of}
 use Rattle.toml_working.specs.RemoveStanding.{makes}
 use Rattle.toml_working.specs.Standing.{Standing, holds, is_below, lies_below, standing, standing_from}
 use Rattle.toml_working.specs.HeadingFollowed.{header_followed, header_line_behind, line_behind_family, or_header_at_end}
+use Rattle.toml_editor.proofs.written.BelowPlace.{standing_behind}
 use Rattle.toml_editor.proofs.written.Counted.{AreLast, last_child}
-use Rattle.toml_editor.proofs.written.ElementCounted.{apart_element, next_leads, under_begins}
+use Rattle.toml_editor.proofs.written.ElementCounted.{apart_element, next_leads}
 use Rattle.toml_editor.proofs.written.ElementHeaded.{away_unnamed, none_holds, some_named}
 use Rattle.toml_editor.proofs.written.EmptyAlone.{IsAway, not_any}
 use Rattle.toml_editor.proofs.written.FollowedPlace.{followed_put}
 use Rattle.toml_editor.proofs.written.HeaderLeads.{leads}
 use Rattle.toml_editor.proofs.written.HeaderPut.{IsApart}
 use Rattle.toml_editor.proofs.written.HeaderSplit.{any_back}
-use Rattle.toml_editor.proofs.written.HeaderStood.{stand_append}
 use Rattle.toml_editor.proofs.written.HeaderThere.{IsPlaced}
 use Rattle.toml_editor.proofs.written.SectionFacts.{IsNextElement, IsRoom}
+use Rattle.toml_editor.proofs.written.TablesStay.{under_begins}
 
 -- ---- addresses
 
@@ -158,4 +159,4 @@ element_followed q i style may lines kinds forms keeps facts next outside = by (
         (none_holds r (Name n ∷ []) (standing lines) (subst (λ x. list_any (holds x) (standing lines) ≡ false) q_is outside)))
         (λ front back split away. apart_element q i front back
         (any_back (is_below q) (standing front) (standing_from (named front) (length front) back)
-        (ap (list_any (is_below q)) (sym (stand_append front back [])) ∙ ap (λ ls. list_any (is_below q) (standing ls)) (sym split) ∙ none))))
+        (ap (list_any (is_below q)) (sym (standing_behind front back [])) ∙ ap (λ ls. list_any (is_below q) (standing ls)) (sym split) ∙ none))))

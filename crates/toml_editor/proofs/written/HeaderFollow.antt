@@ -39,6 +39,7 @@ use Rattle.toml_editor.specs.EditedLines.{IsInNoValue, header_put_in, manner_beh
 use Rattle.toml_editor.specs.Exact.{Follows, IsAt, WritesHeader}
 use Rattle.toml_editor.specs.SpelledEdits.{AreSteps, step_spelled}
 use Rattle.toml_editor.specs.Steps.{IsPlain}
+use Rattle.toml_editor.proofs.written.Closed.{no_end}
 use Rattle.toml_editor.proofs.written.ElementFacts.{element_room}
 use Rattle.toml_editor.proofs.written.Follow.{follows}
 use Rattle.toml_editor.proofs.written.FollowedFacts.{name_is_no_element}
@@ -130,7 +131,7 @@ pub element_follows : (profile : Profile) (read : Read) (old new : Tree) (p : Ad
 element_follows profile read old new p text kinds now at none is_after (q, i, own, outside) rest steps spells done puts =
     let lines = at.good.tree.lines in
     let room = element_room profile q i kinds (lines_are_closed lines kinds at.good.good.0 at.good.facts) (subst (λ x. IsFault profile (new_element x) kinds None) own none) in
-    let array : ArrayIsNotRoot q p = (λ some root. no_child room.table.0 room.table.1 (sym root ∙ room.table.2)) in
+    let array : ArrayIsNotRoot q p = (λ some root. no_end room.table.0 (Name room.table.1) [] (sym root ∙ room.table.2)) in
     let put = header_put_in (manner old).layout q Two p (manner old) lines in
     let goes = element_put q i (manner old) lines kinds at.good.spelled.0.lines.forms at.good.good.0 at.good.facts room outside in
     let (is_done, stands, mannered) = header_made profile read old new Two p q (Index i) text kinds at own outside array rest steps spells done puts put
@@ -140,7 +141,3 @@ element_follows profile read old new p text kinds now at none is_after (q, i, ow
       follows profile read (new_element p) old new text kinds now put at.newline at.good none is_after (q, i, own, outside, refl) stands
           (subst NoneIsGone (sym rest.elements) at.whole) rest.texts mannered,
     )
-  where
-    no_child : (r : Address) (n : List ℕ) → ¬ ([] ≡ child r n)
-    no_child [] n h = cc
-    no_child (t ∷ r) n h = cc

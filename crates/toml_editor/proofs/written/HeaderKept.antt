@@ -1,5 +1,6 @@
 -- What is kept by a new header line, of a table or of an element: the table rules, the bound on addresses, the data.
 use Rattle.std.proofs.Common.{◌≡◌, ◌⊎◌, inl, inr, ◌<◌, ◌≤◌, ℕ, true, false, Some, None, List, [], ◌∷◌, ◌++◌, length, length-append, refl, sym, ap, ◌∙◌, subst, subst₂, append_assoc, append-nil, arith}
+use Rattle.std.proofs.lemmas.List.{same_from_push}
 use Rattle.std.specs.List.{list_any}
 use Rattle.std.proofs.lemmas.Option.{same_Some}
 use Rattle.toml_tree.specs.Spells.{EachIs}
@@ -19,7 +20,6 @@ use Rattle.toml_editor.specs.Blocks.{IsPut, named_plain}
 use Rattle.toml_editor.proofs.Each.{each_append, each_front, each_back, each_weaker}
 use Rattle.toml_editor.proofs.written.BlockFacts.{each_put, has_old, has_block, has_new}
 use Rattle.toml_editor.proofs.written.Clear.{above_apart}
-use Rattle.toml_editor.proofs.written.Counted.{same_last}
 use Rattle.toml_editor.proofs.written.CountedArrays.{followed_has}
 use Rattle.toml_editor.proofs.written.EmptyAlone.{each_both}
 use Rattle.toml_editor.proofs.written.HeaderCounted.{Enters, enters}
@@ -61,9 +61,9 @@ module _ (E : Named → Type 0) (end : Address → List Named) (xs : List Named)
   entered_there at n c i is = by (enters xs (child at n))
     where
       by : Enters xs (child at n) → i < count_tables xs c
-      by (inl e) = let (parents, lasts) = same_last at c (Name n) (Index i) (sym e ∙ is) in absurd (let f : ⊥ = cc in f)
+      by (inl e) = let (parents, lasts) = same_from_push at c (Name n) (Index i) (sym e ∙ is) in absurd (let f : ⊥ = cc in f)
       by (inr (j, e, count)) =
-          let (arrays, lasts) = same_last (child at n) c (Index j) (Index i) (sym e ∙ is) in
+          let (arrays, lasts) = same_from_push (child at n) c (Index j) (Index i) (sym e ∙ is) in
           let same : j ≡ i = cc in
           subst (λ a. i < count_tables xs a) arrays (omega (arith, count, same))
 

@@ -1,6 +1,7 @@
 -- The key of a new section's header leads to its address.
 use Rattle.std.proofs.Common.{◌≡◌, ◌∙◌, inl, inr, ℕ, zero, suc, ◌+◌, ◌-◌, ◌==◌, Bool, true, false, cond, Option, Some, None, List, [], ◌∷◌, ◌++◌, map, refl, sym, ap, ap₂, subst, append_assoc, append-nil, arith}
 use Rattle.std.proofs.lemmas.Bool.Decides.{nat_tests}
+use Rattle.std.proofs.lemmas.List.{same_from_push}
 use Rattle.std.proofs.lemmas.Option.{same_Some}
 use Rattle.toml_tree.specs.Tree.{Dotted, Line}
 use Rattle.toml_names.specs.declared.model.address.Step.{Step}
@@ -17,7 +18,8 @@ use Rattle.toml_layout.specs.declared.tree.Brackets.TheVariants.{One}
 use Rattle.toml_working.specs.Heading.{dotted_name, header_expr, key_named}
 use Rattle.toml_working.specs.Headers.{names_of}
 use Rattle.toml_editor.proofs.written.Clear.{same_is}
-use Rattle.toml_editor.proofs.written.Counted.{AreLast, counts_grow, last_child, last_step, no_cons, same_last}
+use Rattle.toml_editor.proofs.written.Closed.{no_end}
+use Rattle.toml_editor.proofs.written.Counted.{AreLast, counts_grow, last_child, last_or_earlier}
 use Rattle.toml_editor.proofs.written.CountedArrays.{IsNamedLast, count_unnamed, counted_arrays, element_unnamed, root_unnamed}
 use Rattle.toml_editor.proofs.written.InsertNamed.{spelled_again}
 use Rattle.toml_editor.proofs.written.Pairwise.{Has, any_of_has, has_append_left, has_of_any, has_parts, has_weaker}
@@ -57,7 +59,7 @@ next_names ms m are joins u n has = elim (has_parts (IsAt (child u n)) ms (m ∷
   where
     by : Joins ms m → m.address ≡ child u n → Has (IsKindAt u a_table) ms
     by (inl free) at =
-        let same = same_last u free.parent (Name n) free.last (sym at ∙ free.is) in
+        let same = same_from_push u free.parent (Name n) free.last (sym at ∙ free.is) in
         let next : IsNext (fact_at ms) u (Name n) =
         subst (λ s. IsNext (fact_at ms) u s) (sym same.1) (subst (λ (p : Address). IsNext (fact_at ms) p free.last) (sym same.0) free.next) in
         fact_named ms u a_table next
@@ -82,7 +84,7 @@ line_names lines keeps =
     subst NamesAreInTables (sym front.1) (all_names front.0 (root ∷ []) first (subst Joined front.1 (lines_join lines keeps)))
   where
     first : NamesAreInTables (root ∷ [])
-    first u n (inl at) = absurd (no_cons u (Name n) [] at)
+    first u n (inl at) = absurd (no_end u (Name n) [] at)
     first u n (inr none) = absurd none
 
 module _ (lines : List Line) (kinds : Kinds) (keeps : KeepsRules (named lines)) (data_is : IsDataOf (named lines) kinds) where
@@ -119,7 +121,7 @@ module _ (lines : List Line) (kinds : Kinds) (keeps : KeepsRules (named lines)) 
   module _ (q : Address) (name : List ℕ) (table : kinds q ≡ Some a_table) where
     -- each front that a name follows is a table
     pub fronts_are_tables : (r rest : Address) (n : List ℕ) → child q name ≡ r ++ Name n ∷ rest → kinds r ≡ Some a_table
-    fronts_are_tables r rest n is = elim (last_step q r (Name name) (Name n) rest is) [
+    fronts_are_tables r rest n is = elim (last_or_earlier q r (Name name) (Name n) rest is) [
       | inl same ↦ sym (ap kinds same.0) ∙ table
       | inr more ↦ name_in_table r n (λ none. absurd (let e : None ≡ Some a_table = sym (below more.0 none) ∙ ap kinds (sym more.1) ∙ table in cc))
     ]

@@ -4,7 +4,7 @@ use Rattle.std.specs.List.{list_any}
 use Rattle.std.specs.Prelude.{is_some, not, option_map}
 use Rattle.std.proofs.lemmas.Bool.{and_parts, cond-true}
 use Rattle.std.proofs.lemmas.Bool.Decides.{nat_tests}
-use Rattle.std.proofs.lemmas.List.{map-append}
+use Rattle.std.proofs.lemmas.List.{map-append, nil_from_length}
 use Rattle.toml_text.specs.Forms.{IsWs}
 use Rattle.toml_tree.specs.Bare.{fresh}
 use Rattle.toml_tree.specs.Spells.{AreLines}
@@ -25,18 +25,19 @@ use Rattle.toml_working.specs.InsertStanding.{end_in}
 use Rattle.toml_working.specs.Removing.{empty_line}
 use Rattle.toml_working.specs.Standing.{Standing, is_below, line_stands, standing}
 use Rattle.toml_working.specs.HeadingFollowed.{blank_at_end}
+use Rattle.toml_editor.proofs.written.BelowPlace.{standing_behind}
 use Rattle.toml_editor.proofs.written.Counted.{AreLast, counts_stay}
 use Rattle.toml_editor.proofs.written.DocumentSections.{named_next}
 use Rattle.toml_editor.proofs.written.HeaderPut.{IsApart, IsHeaderPut, ended}
 use Rattle.toml_editor.proofs.written.HeaderSplit.{BeforeEmpty, BehindLast, at_end, lines_of, stand_of}
-use Rattle.toml_editor.proofs.written.HeaderStood.{parts, put_stands, shown_lines, shown_outlined, shown_stands, stand_append}
+use Rattle.toml_editor.proofs.written.HeaderStood.{parts, put_stands, shown_lines, shown_outlined, shown_stands}
 use Rattle.toml_editor.proofs.written.InsertPlace.{IsHeadless}
 use Rattle.toml_editor.proofs.written.PutStands.{ends_same}
 
 -- ---- a line without bytes
 
 -- it has neither a key nor a header
-pub no_bytes : (l : Line) → has_no_bytes (line_outline l) ≡ true → IsHeadless l.expr × (has_pair (l ∷ []) ≡ false)
+no_bytes : (l : Line) → has_no_bytes (line_outline l) ≡ true → IsHeadless l.expr × (has_pair (l ∷ []) ≡ false)
 no_bytes l is = by l.expr is
   where
     by : (e : Expr) → has_no_bytes (line_outline (record { expr = e; newline = l.newline })) ≡ true → IsHeadless e
@@ -46,9 +47,8 @@ no_bytes l is = by l.expr is
     by (TableLine ws header tail) h = absurd (true≢false (sym h))
     by (ArrayTableLine ws header tail) h = absurd (true≢false (sym h))
 
-no_texts : (bs : List ℕ) → (length bs == 0) ≡ true → bs ≡ []
-no_texts [] h = refl
-no_texts (b ∷ bs) h = let low : length (b ∷ bs) ≡ 0 = grind (arith, nat_tests, h) in absurd (omega (arith, low))
+none_long : (bs : List ℕ) → (length bs == 0) ≡ true → bs ≡ []
+none_long bs h = nil_from_length bs (grind (arith, nat_tests, h))
 
 uncommented : (c : Option Piece) → not (is_some (option_map (λ (x : Piece). x.text) c)) ≡ true → option_map (λ (x : Piece). x.text) c ≡ None
 uncommented None h = refl
@@ -61,10 +61,10 @@ no_parts b newline is =
     let bare = not (is_some (option_map (λ (x : Piece). x.text) b.comment)) in
     let ends = and_parts ((length b.ws.text == 0) && bare) (length newline.text == 0) is in
     let texts = and_parts (length b.ws.text == 0) bare ends.0 in
-    (no_texts b.ws.text texts.0, uncommented b.comment texts.1, no_texts newline.text ends.1)
+    (none_long b.ws.text texts.0, uncommented b.comment texts.1, none_long newline.text ends.1)
 
 -- as a blank line it stands so, in each newline
-pub empty_stands : (xs : List Named) (l : Line) (newline : Piece) → has_no_bytes (line_outline l) ≡ true
+empty_stands : (xs : List Named) (l : Line) (newline : Piece) → has_no_bytes (line_outline l) ≡ true
     → line_stands xs (record { expr = l.expr; newline = newline }) ≡ blank_line newline.text
 empty_stands xs l newline is = by l.expr is
   where
@@ -119,9 +119,14 @@ pub apart_at_end : (brackets : Brackets) (p : Address) (front : List Line) → I
 apart_at_end One p front = tt
 apart_at_end Two p front = λ q i is. refl
 
-pub apart_before_empty : (brackets : Brackets) (p : Address) (front : List Line) (l : Line) → has_no_bytes (line_outline l) ≡ true → IsApart brackets p front (l ∷ [])
+apart_before_empty : (brackets : Brackets) (p : Address) (front : List Line) (l : Line) → has_no_bytes (line_outline l) ≡ true → IsApart brackets p front (l ∷ [])
 apart_before_empty One p front l is = tt
 apart_before_empty Two p front l is = λ q i at. ap (λ s. list_any (is_below q) (s ∷ [])) (empty_stands (named front) l l.newline is)
+
+-- of lines in the forms there is one
+pub lines_there : (ls : List Line) → AreLines ls → ¬ (ls ≡ [])
+lines_there [] are is = are
+lines_there (l ∷ ls) are is = cc
 
 module _ (brackets : Brackets) (p : Address) (style : List ℕ) (lines : List Line) where
   -- the lines with it, and what stands on them
@@ -133,11 +138,7 @@ module _ (brackets : Brackets) (p : Address) (style : List ℕ) (lines : List Li
   put_as put put' stand stand' e f it = subst (λ x. IsPlaced x stand') (sym e) (subst (IsPlaced put) (sym f) it)
 
   pub some_line : AreLines lines → ¬ (shown lines ≡ [])
-  some_line forms none = no_lines lines forms (sym (shown_lines lines (root ∷ []) 0) ∙ ap lines_of none)
-    where
-      no_lines : (ls : List Line) → AreLines ls → ¬ (ls ≡ [])
-      no_lines [] are is = are
-      no_lines (l ∷ ls) are is = cc
+  some_line forms none = lines_there lines forms (sym (shown_lines lines (root ∷ []) 0) ∙ ap lines_of none)
 
   module _ (ws : List ℕ) (spaced : AreLines lines → IsWs ws) where
     abbrev h : List ℕ → Line
@@ -213,7 +214,7 @@ module _ (brackets : Brackets) (p : Address) (style : List ℕ) (lines : List Li
           stands =
               ap standing (is ∙ sym (append_assoc before (ended style last ∷ []) (h [] ∷ [])))
               ∙ put_stands brackets p closed [] ws [] leads_closed (apart_at_end brackets p closed) refl
-              ∙ ap (λ s. s ++ new [] ∷ []) (stand_append before (ended style last ∷ []) [] ∙ ap₂ (λ a b. a ++ b ∷ []) are.front_stands ends)
+              ∙ ap (λ s. s ++ new [] ∷ []) (standing_behind before (ended style last ∷ []) [] ∙ ap₂ (λ a b. a ++ b ∷ []) are.front_stands ends)
               ∙ append_assoc (stand_of it.front) (end_in style it.last.1 ∷ []) (new [] ∷ [])
               ∙ sym (ap (put_at_text_end new style) (sym (shown_stands lines (root ∷ []) 0)) ∙ it.stands
               ∙ ap (λ t. stand_of it.front ++ put_after new style it.last.1 t) opened);
@@ -258,7 +259,7 @@ module _ (brackets : Brackets) (p : Address) (style : List ℕ) (lines : List Li
               ap standing (is ∙ sym (append_assoc before (ended style last ∷ []) (h style ∷ empty_line ∷ [])))
               ∙ put_stands brackets p closed (empty_line ∷ []) ws style leads_closed (apart_before_empty brackets p closed empty_line refl) refl
               ∙ ap (λ s. s ++ new style ∷ blank_line [] ∷ [])
-              (stand_append before (ended style last ∷ []) [] ∙ ap₂ (λ a b. a ++ b ∷ []) are.front_stands (empty_stands (named before) last (fresh style) empty))
+              (standing_behind before (ended style last ∷ []) [] ∙ ap₂ (λ a b. a ++ b ∷ []) are.front_stands (empty_stands (named before) last (fresh style) empty))
               ∙ append_assoc (stand_of front) (blank_line style ∷ []) (new style ∷ blank_line [] ∷ []) ∙ sym put;
         }
 

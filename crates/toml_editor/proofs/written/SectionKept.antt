@@ -16,7 +16,7 @@ use Rattle.toml_layout.specs.declared.tree.Brackets.TheVariants.{One}
 use Rattle.toml_working.specs.Headers.{names_of}
 use Rattle.toml_working.specs.Standing.{holds, standing}
 use Rattle.toml_editor.specs.Blocks.{section_block}
-use Rattle.toml_editor.proofs.written.Counted.{last_step}
+use Rattle.toml_editor.proofs.written.Counted.{last_or_earlier}
 use Rattle.toml_editor.proofs.written.HeaderKept.{IsHeaderBlock, absent_goes, header_block, header_moves, header_rules, header_short}
 use Rattle.toml_editor.proofs.written.HeaderLeads.{IsKindAt, fronts_are_tables}
 use Rattle.toml_editor.proofs.written.HeaderPut.{IsSectionPut}
@@ -52,7 +52,7 @@ section_rules q name style old new kinds put keeps is table none alone =
   where
     -- what a name follows on the way is the table, or above it
     over : (r rest : Address) (n : List ℕ) → child q name ≡ r ++ Name n ∷ rest → (s : Address) × (q ≡ r ++ s)
-    over r rest n at = elim (last_step q r (Name name) (Name n) rest at) [
+    over r rest n at = elim (last_or_earlier q r (Name name) (Name n) rest at) [
       | inl same ↦ ([], same.0 ∙ sym (append-nil r))
       | inr more ↦ (Name n ∷ more.0, more.1)
     ]

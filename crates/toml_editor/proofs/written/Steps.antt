@@ -1,5 +1,6 @@
 -- Plain edits, from text to text.
 use Rattle.std.proofs.Common.{◌≡◌, ◌⊎◌, inl, inr, ℕ, ◌+◌, ◌<◌, List, [], ◌∷◌, ◌++◌, length, Some, None, IsSome, refl, sym, ap, ap₂, ◌∙◌, subst, subst₂}
+use Rattle.std.proofs.lemmas.List.{same_from_push}
 use Rattle.std.specs.Prelude.{◌↔◌}
 use Rattle.toml_text.specs.Forms.{IsNewline}
 use Rattle.toml_tree.specs.Places.{put_lines, put_doc}
@@ -40,7 +41,6 @@ use Rattle.toml_editor.proofs.written.RemoveKept.{remove_forms}
 use Rattle.toml_editor.proofs.written.RemovedEither.{remove_data, remove_good}
 use Rattle.toml_editor.proofs.written.RenameFormed.{rename_forms}
 use Rattle.toml_editor.proofs.written.RenameKept.{rename_good, rename_data}
-use Rattle.toml_editor.proofs.written.Counted.{same_last}
 use Rattle.toml_editor.proofs.written.ElementFacts.{element_room}
 use Rattle.toml_editor.proofs.written.ElementKept.{element_data, element_forms, element_of_profile, element_rules, element_short}
 use Rattle.toml_editor.proofs.written.HeaderGoes.{element_put, section_put}
@@ -207,7 +207,7 @@ one_edited profile (remove p) manner old one two (there, is) (there', is') = is 
 one_edited profile (new_section p) manner old one two (q, m, at, outside, is) (r, n, at', outside', is') =
     let (tables, names) = same_member q r m n (sym at ∙ at') in is ∙ ap (λ t. header_put_in manner.layout t One p manner old) tables ∙ sym is'
 one_edited profile (new_element p) manner old one two (q, i, at, outside, is) (r, j, at', outside', is') =
-    let arrays = (same_last q r (Index i) (Index j) (sym at ∙ at')).0 in is ∙ ap (λ t. header_put_in manner.layout t Two p manner old) arrays ∙ sym is'
+    let arrays = (same_from_push q r (Index i) (Index j) (sym at ∙ at')).0 in is ∙ ap (λ t. header_put_in manner.layout t Two p manner old) arrays ∙ sym is'
 
 pub one_written : OneWritten
 one_written profile c manner before one two (d, spells, new, made, text) (e, spells', new', made', text') =

@@ -21,6 +21,7 @@ use Rattle.toml_names.specs.mentions.Rules.{KeepsRules}
 use Rattle.toml_names.proofs.Proved.{lines_are_closed, lines_have_data, places_are_not_named}
 use Rattle.toml_units.proofs.Proved.{units_are_named}
 use Rattle.toml_working.specs.Removing.{remove_lines}
+use Rattle.toml_editor.proofs.written.HeaderThere.{lines_there}
 use Rattle.toml_editor.proofs.written.RemoveKept.{remove_forms}
 use Rattle.toml_editor.proofs.written.RemovedEither.{left_clear, remove_good, remove_way}
 use Rattle.toml_editor.proofs.written.Pairwise.{has_of_any, from_has}
@@ -101,13 +102,9 @@ header_more : (brackets : Brackets) (q p : Address) (last : Step) (manner : Mann
     → standing put ≡ header_laid_out manner.layout q p brackets manner manner.may_blank (standing lines)
     → blank_standing (parent_of p) p brackets manner manner.may_blank (standing lines) ≡ false → IsOneMore lines put
 header_more brackets q p last manner lines put at forms outside is none =
-    one_more manner.layout q p brackets manner manner.may_blank lines put (some lines forms) is
+    one_more manner.layout q p brackets manner manner.may_blank lines put (lines_there lines forms) is
     (sym (ap (λ b. not b && blank_laid_out manner.layout q p brackets manner manner.may_blank (standing lines)) outside)
     ∙ ap (λ r. blank_standing r p brackets manner manner.may_blank (standing lines)) (sym (parent_is q last) ∙ ap parent_of (sym at)) ∙ none)
-  where
-    some : (ls : List Line) → AreLines ls → ¬ (ls ≡ [])
-    some [] are is = are
-    some (l ∷ ls) are is = cc
 
 -- what is to be shown of an edit
 abbrev HaveWays : Change → Type 0
