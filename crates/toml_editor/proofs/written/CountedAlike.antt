@@ -30,7 +30,7 @@ abbrev pub AreCountedBut : (Address → Type 0) → List Named → List Named �
 AreCountedBut Unseen xs ys = (at : Address) → Unseen at ⊎ (count_tables xs at ≡ count_tables ys at)
 
 -- by a line of this address: it stands neither at the array nor below it
-abbrev pub IsUnseen : Option Address → Address → Type 0
+abbrev IsUnseen : Option Address → Address → Type 0
 IsUnseen own at = lies_below at own ≡ false
 
 -- by lines
@@ -76,7 +76,7 @@ module _ (xs ys : List Named) (own : Address) (same : AreCountedBut (IsUnseen (S
       tables n = record { address = at; role = Tables; kind = an_array; line = line } ∷ table_at line Element (element at n) ∷ []
 
 -- a header names the same, and stands at the same address
-pub header_named : (xs ys : List Named) (line : ℕ) (e : Expr) → IsHeaderLine e → AreCountedBut (IsUnseen (own_address xs e)) xs ys
+header_named : (xs ys : List Named) (line : ℕ) (e : Expr) → IsHeaderLine e → AreCountedBut (IsUnseen (own_address xs e)) xs ys
     → named_by xs line e ≡ named_by ys line e
 header_named xs ys line (BlankLine b) is same = absurd is
 header_named xs ys line (KeyValLine ws pair tail) is same = absurd is
@@ -90,7 +90,7 @@ header_named xs ys line (ArrayTableLine ws h tail) is same =
     followed_same xs ys own same line (ends_tables line xs) (ends_tables line ys) (tables_same xs ys own same line) (part_name h.key.first)
     (rest_names h.key.rest) [] (Index (count_tables xs at) ∷ [], refl)
 
-pub header_owned : (xs ys : List Named) (e : Expr) → IsHeaderLine e → AreCountedBut (IsUnseen (own_address xs e)) xs ys → own_address xs e ≡ own_address ys e
+header_owned : (xs ys : List Named) (e : Expr) → IsHeaderLine e → AreCountedBut (IsUnseen (own_address xs e)) xs ys → own_address xs e ≡ own_address ys e
 header_owned xs ys (BlankLine b) is same = absurd is
 header_owned xs ys (KeyValLine ws pair tail) is same = absurd is
 header_owned xs ys (TableLine ws h tail) is same =

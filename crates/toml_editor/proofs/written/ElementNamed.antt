@@ -51,7 +51,7 @@ module _ (q : Address) (i : ℕ) (style : List ℕ) (old new : List Line) (put :
   pub element_leads : header_end xs [] (names_of q) ≡ q
   element_leads = ap (header_end xs []) (sym key_is) ∙ ends_there.0
 
-  pub element_counted : count_tables xs q ≡ i
+  element_counted : count_tables xs q ≡ i
   element_counted =
       let same = ends_there.1 in
       let count : count_tables xs (header_end xs [] key) ≡ i = cc in

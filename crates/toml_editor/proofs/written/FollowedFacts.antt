@@ -75,7 +75,7 @@ not_below q s none = by s.base s.address none
         dotted true true is = let (t, rest, at) = (above_is_above q a).0 is in absurd (true≢false (sym (under_begins q a (t ∷ rest, at)) ∙ h))
 
 -- What the data have, and no line's value holds, has a line at it or below it, but for the root.
-pub line_below : (lines : List Line) (kinds : Kinds) → IsDataOf (named lines) kinds → (q : Address) → IsSome (kinds q) → list_any (holds q) (standing lines) ≡ false
+line_below : (lines : List Line) (kinds : Kinds) → IsDataOf (named lines) kinds → (q : Address) → IsSome (kinds q) → list_any (holds q) (standing lines) ≡ false
     → ¬ (q ≡ []) → list_any (is_below q) (standing lines) ≡ true
 line_below lines kinds facts q some outside not_root = by (list_any (is_below q) (standing lines)) refl
   where

@@ -45,7 +45,7 @@ enters xs a = by (count_tables xs a == 0) refl
 -- ---- behind lists that the lines see alike
 
 -- There lines name the same.
-pub behind_same : (ls : List Line) (xs ys : List Named) (n : ℕ) → IsSameSection xs ys ls → AreCountedBut (AreUnseen (standing_from xs n ls)) xs ys
+behind_same : (ls : List Line) (xs ys : List Named) (n : ℕ) → IsSameSection xs ys ls → AreCountedBut (AreUnseen (standing_from xs n ls)) xs ys
     → behind xs ls ≡ behind ys ls
 behind_same [] xs ys n sections same = refl
 behind_same (l ∷ ls) xs ys n sections same =

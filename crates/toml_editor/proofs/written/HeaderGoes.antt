@@ -19,13 +19,13 @@ use Rattle.toml_editor.proofs.written.HeaderThere.{IsPlaced}
 use Rattle.toml_editor.proofs.written.SectionFacts.{IsNextElement, IsRoom, section_goes}
 
 module _ (manner : Manner) (lines : List Line) (kinds : Kinds) (forms : AreLines lines) (keeps : KeepsRules (named lines)) (facts : IsDataOf (named lines) kinds) where
-  pub section_put_in : (layout : Layout) (q : Address) (name : List ℕ) → IsRoom q name kinds → IsInNoValue lines q
+  section_put_in : (layout : Layout) (q : Address) (name : List ℕ) → IsRoom q name kinds → IsInNoValue lines q
       → IsPlaced One (child q name) manner.newline lines (header_put_in layout q One (child q name) manner lines)
       (header_laid_out layout q (child q name) One manner manner.may_blank (standing lines))
   section_put_in layouts.Plain q name room outside = section_goes q name manner.newline lines kinds forms keeps facts room outside
   section_put_in layouts.Follow q name room outside = section_followed q name manner.newline manner.may_blank lines kinds forms keeps facts room outside
 
-  pub element_put_in : (layout : Layout) (q : Address) (i : ℕ) → IsNextElement q i kinds → IsInNoValue lines q
+  element_put_in : (layout : Layout) (q : Address) (i : ℕ) → IsNextElement q i kinds → IsInNoValue lines q
       → IsPlaced Two (element q i) manner.newline lines (header_put_in layout q Two (element q i) manner lines)
       (header_laid_out layout q (element q i) Two manner manner.may_blank (standing lines))
   element_put_in layouts.Plain q i room outside = element_goes q i manner.newline lines kinds forms keeps facts room outside

@@ -42,11 +42,11 @@ pub record IsPassed (a : Address) (xs : List Named) (m : Named) : Type 0 where
   pub there : (c : Address) (i : ℕ) → m.address ≡ element c i → i < count_tables xs c
 
 -- such a one, or what stands at the end
-abbrev pub IsOfHeader : (Named → Type 0) → Address → List Named → Named → Type 0
+abbrev IsOfHeader : (Named → Type 0) → Address → List Named → Named → Type 0
 IsOfHeader E a xs m = E m ⊎ IsPassed a xs m
 
 -- what stands at the end is at the address or below it
-abbrev pub IsAtEnd : (Named → Type 0) → Address → Type 0
+abbrev IsAtEnd : (Named → Type 0) → Address → Type 0
 IsAtEnd E a = (m : Named) → E m → (rest : Address) × (m.address ≡ a ++ rest)
 
 -- what the header of a key that leads to the address names goes together, and what stands at the end is in it
@@ -163,7 +163,7 @@ header_moves E end a xs block old new base v kinds after are puts is is' tables 
 -- ---- rules
 
 -- what holds of all that was named, where no line's value stands at the address or above it
-abbrev pub IsOld : Kinds → Address → Named → Type 0
+abbrev IsOld : Kinds → Address → Named → Type 0
 IsOld kinds q m = (kinds m.address ≡ Some m.kind) × HasKind m × IsNotOver q m
 
 all_old : (old : List Line) (kinds : Kinds) (q : Address) → IsDataOf (named old) kinds → list_any (holds q) (standing old) ≡ false
@@ -230,7 +230,7 @@ module _ (kinds : Kinds) (q : Address) (xs : List Named) where
   behind_passed Element v t e = absurd (e refl)
   behind_passed Bare v t e = refl
 
-  pub passed_goes : (a : Address) (b : Named) → AreTables a kinds → ((r rest : Address) (n : List ℕ) → a ≡ r ++ Name n ∷ rest → (s : Address) × (q ≡ r ++ s))
+  passed_goes : (a : Address) (b : Named) → AreTables a kinds → ((r rest : Address) (n : List ℕ) → a ≡ r ++ Name n ∷ rest → (s : Address) × (q ≡ r ++ s))
       → IsPassed a xs b → BothGo b
   passed_goes a b tables over passed = (
     (λ e was same. subst (λ r. may_follow e.role r ≡ true) (sym passed.role) (before_passed e.role (not_valued e was same) (not_tables e was same))),

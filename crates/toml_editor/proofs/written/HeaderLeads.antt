@@ -89,7 +89,7 @@ line_names lines keeps =
 
 module _ (lines : List Line) (kinds : Kinds) (keeps : KeepsRules (named lines)) (data_is : IsDataOf (named lines) kinds) where
   -- what a name follows in the data is a table
-  pub name_in_table : (u : Address) (n : List ℕ) → ¬ (kinds (child u n) ≡ None) → kinds u ≡ Some a_table
+  name_in_table : (u : Address) (n : List ℕ) → ¬ (kinds (child u n) ≡ None) → kinds u ≡ Some a_table
   name_in_table u n some = by (kinds (child u n)) refl
     where
       named_so : (k : Kind) → kinds (child u n) ≡ Some k → Has (IsAt (child u n)) (named lines)
@@ -106,7 +106,7 @@ module _ (lines : List Line) (kinds : Kinds) (keeps : KeepsRules (named lines)) 
       ap kinds (sym (append_assoc at (s ∷ []) more)) ∙ none_below more (at ++ s ∷ []) (lines_are_closed lines kinds keeps data_is at s none)
 
   -- so it is no array of tables
-  pub table_uncounted : (front back : List Line) (r : Address) → lines ≡ front ++ back → kinds r ≡ Some a_table → count_tables (named front) r ≡ 0
+  table_uncounted : (front back : List Line) (r : Address) → lines ≡ front ++ back → kinds r ≡ Some a_table → count_tables (named front) r ≡ 0
   table_uncounted front back r parts table = by (count_tables (named front) r) refl
     where
       by : (k : ℕ) → count_tables (named front) r ≡ k → count_tables (named front) r ≡ 0

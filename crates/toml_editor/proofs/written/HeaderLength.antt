@@ -42,7 +42,7 @@ after_length : (new : List ℕ → Standing) (style : List ℕ) (s : Standing) (
 after_length new style s [] = refl
 after_length new style s (b ∷ bs) = refl
 
-pub end_length : (new : List ℕ → Standing) (style : List ℕ) (ss : List Standing) → ¬ (ss ≡ []) → length (put_at_text_end new style ss) ≡ length ss + 1
+end_length : (new : List ℕ → Standing) (style : List ℕ) (ss : List Standing) → ¬ (ss ≡ []) → length (put_at_text_end new style ss) ≡ length ss + 1
 end_length new style [] some = absurd (some refl)
 end_length new style (s ∷ []) some = by (has_no_bytes s.outline)
   where

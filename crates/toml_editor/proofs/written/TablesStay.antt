@@ -61,7 +61,7 @@ module _ (p q : Address) where
   gone_makes_none : (s : Standing) → is_pair p s ≡ true → makes_beside q p s ≡ false
   gone_makes_none s is = ap (λ b. makes q s.base s.address && not b) (value_below p s.base s.address is) ∙ and-false (makes q s.base s.address)
 
-  pub makers_stay : (ss : List Standing) → list_any (makes_beside q p) ss ≡ true
+  makers_stay : (ss : List Standing) → list_any (makes_beside q p) ss ≡ true
       → list_any (makes_beside q p) (flat_map (removed_one p true) ss) ≡ true
   makers_stay [] there = there
   makers_stay (s ∷ ss) there = by (is_pair p s) refl (makers_stay ss)

@@ -225,7 +225,7 @@ pub record HasListWay (Firm : Type 0) (cs : List Change) (d e : Doc) : Type 0 wh
   pub comments_are : written.AreWritten cs comments_in
   pub way : HasWayIf Firm cs comments_in d.lines e.lines
 
-pub list_goes : (cs : List Change) (profile : Profile) (manner : Manner) (before after : List ℕ) (old now : Kinds) → IsNewline manner.newline
+list_goes : (cs : List Change) (profile : Profile) (manner : Manner) (before after : List ℕ) (old now : Kinds) → IsNewline manner.newline
     → (good : IsGoodText profile before old) → EndsBare manner good.tree.lines
     → Lead profile cs old now → AreWritten profile cs manner before after → (new : IsGoodText profile after now)
     → HasListWay (manner.may_blank ≡ false) cs good.tree new.tree

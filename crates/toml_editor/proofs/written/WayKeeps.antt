@@ -168,7 +168,7 @@ line_goes cs line next u w goes home = ap (next_line next) goes ∙ by (is_line 
 
 -- ---- where one edit carries a unit
 
-pub one_carrier : (c : Change) (o : Option Address) → option_and_then (carry c) o ≡ option_and_then (carried (c ∷ [])) o
+one_carrier : (c : Change) (o : Option Address) → option_and_then (carry c) o ≡ option_and_then (carried (c ∷ [])) o
 one_carrier c None = refl
 one_carrier c (Some a) = sym (no_more (carry c a))
 

@@ -55,7 +55,7 @@ below_carried c cs (Some a) None goes below = absurd goes
 below_carried c cs (Some a) (Some b) goes below = below_on c cs a b goes below
 
 -- what goes by the first edit
-pub lost_on : (c : Change) (cs : List Change) (line : Option Site) (u : TextUnit) → is_here (c ∷ []) line u ≡ false
+lost_on : (c : Change) (cs : List Change) (line : Option Site) (u : TextUnit) → is_here (c ∷ []) line u ≡ false
     → is_here (c ∷ cs) line u ≡ false
 lost_on c cs line u lost =
     let w : TextUnit = record { kind = u.kind; piece = u.piece; address = option_and_then (carried (c ∷ [])) u.address; base = u.base } in
@@ -279,10 +279,10 @@ module _ (Firm Former Later : Type 0) (former : Firm → Former) (later : Firm �
     pub few : (x : List ℕ)
         → times x (texts (comments (added way))) ≤ times x (texts (comments (added s))) + times x (texts (comments (added t)))
 
-  abbrev pub Meets : List Step → List Step → Type 0
+  abbrev Meets : List Step → List Step → Type 0
   Meets s t = map bare_unit (news s) ≡ map bare_unit (olds t)
 
-  abbrev pub GoesOn : List Step → List Step → Type 0
+  abbrev GoesOn : List Step → List Step → Type 0
   GoesOn s t = (line mid next : Option Site) (a b d : ℕ) → Fits (c ∷ []) (ts ∷ []) before between line a b s
       → KeepsIf Former (c ∷ []) before between line mid a b s → IsSure Later c s
       → Fits cs more between after mid b d t → KeepsIf Later cs between after mid next b d t → Whole line next a d s t
