@@ -40,8 +40,9 @@ pub mod FollowedSplit
 pub mod Formed
 pub mod HeaderCounted
 pub mod HeaderFollow
-pub mod HeaderGoes
+pub mod HeaderFormed
 pub mod HeaderKept
+pub mod HeaderLaidOut
 pub mod HeaderLaws
 pub mod HeaderLeads
 pub mod HeaderLength
@@ -90,7 +91,6 @@ pub mod RenameTexts
 pub mod RootPairs
 pub mod ScalarsLone
 pub mod SectionFacts
-pub mod SectionFormed
 pub mod SectionKept
 pub mod SectionNamed
 pub mod SectionRoles

@@ -31,7 +31,7 @@ use Rattle.toml_editor.proofs.written.CountedArrays.{IsNamedLast, element_unname
 use Rattle.toml_editor.proofs.written.DocumentSections.{begins_longer, line_of, named_next}
 use Rattle.toml_editor.proofs.written.ElementHeaded.{some_named, unheaded_unnamed}
 use Rattle.toml_editor.proofs.written.EmptyAlone.{not_any}
-use Rattle.toml_editor.proofs.written.HeaderLeads.{leads}
+use Rattle.toml_editor.proofs.written.HeaderLeads.{IsNamedAt, leads}
 use Rattle.toml_editor.proofs.written.HeaderPlace.{below_is}
 use Rattle.toml_editor.proofs.written.HeaderPut.{IsApart}
 use Rattle.toml_editor.proofs.written.OneSection.{among_of}
@@ -41,11 +41,8 @@ use Rattle.toml_editor.proofs.written.SectionNamed.{names_of_element}
 use Rattle.toml_editor.proofs.written.StandingOrder.{begins_is}
 use Rattle.toml_editor.proofs.written.TablesStay.{under_begins}
 
-abbrev IsAt : Address → Named → Type 0
-IsAt at m = m.address ≡ at
-
 -- what is named somewhere is of some kind
-has_kind : (ms : List Named) (a : Address) → Has (IsAt a) ms → (k : Kind) × Has (λ m. (m.address ≡ a) × (m.kind ≡ k)) ms
+has_kind : (ms : List Named) (a : Address) → Has (IsNamedAt a) ms → (k : Kind) × Has (λ m. (m.address ≡ a) × (m.kind ≡ k)) ms
 has_kind [] a has = absurd has
 has_kind (m ∷ ms) a (inl at) = (m.kind, inl (at, refl))
 has_kind (m ∷ ms) a (inr more) = let (k, there) = has_kind ms a more in (k, inr there)
@@ -54,11 +51,11 @@ module _ (q : Address) where
   -- ---- the elements that are counted are named
 
   abbrev AreElements : List Named → Type 0
-  AreElements xs = (j : ℕ) → j < count_tables xs q → Has (IsAt (element q j)) xs
+  AreElements xs = (j : ℕ) → j < count_tables xs q → Has (IsNamedAt (element q j)) xs
 
   -- a line that counts for the array names one element, the next
   line_element : (xs : List Named) (line : ℕ) (e : Expr) → ¬ (count_tables (named_by xs line e) q ≡ 0)
-      → (count_tables (named_by xs line e) q ≡ 1) × Has (IsAt (element q (count_tables xs q))) (named_by xs line e)
+      → (count_tables (named_by xs line e) q ≡ 1) × Has (IsNamedAt (element q (count_tables xs q))) (named_by xs line e)
   line_element xs line (BlankLine b) some = absurd (some refl)
   line_element xs line (KeyValLine ws pair tail) some = absurd (some (count_pair line (section xs) pair.assign pair.value q))
   line_element xs line (TableLine ws header tail) some = absurd (some (count_table xs line q (part_name header.key.first) (rest_names header.key.rest)))
@@ -72,11 +69,11 @@ module _ (q : Address) where
 
       by : (b : Bool) → same_address at q ≡ b
           → (count_tables (named_by xs line (ArrayTableLine ws header tail)) q ≡ 1)
-          × Has (IsAt (element q (count_tables xs q))) (named_by xs line (ArrayTableLine ws header tail))
+          × Has (IsNamedAt (element q (count_tables xs q))) (named_by xs line (ArrayTableLine ws header tail))
       by true same =
           let one : element at (count_tables xs at) ≡ element q (count_tables xs q) = ap (λ x. element x (count_tables xs x)) (same_is at q same) in (
             counted ∙ ap one_if same,
-            followed_has (IsAt (element q (count_tables xs q))) xs line (ends_tables line xs) (rest_names header.key.rest) (part_name header.key.first) []
+            followed_has (IsNamedAt (element q (count_tables xs q))) xs line (ends_tables line xs) (rest_names header.key.rest) (part_name header.key.first) []
                 (inr (inl one)),
           )
       by false other = absurd (some (counted ∙ ap one_if other))
@@ -87,16 +84,16 @@ module _ (q : Address) where
       all : count_tables (xs ++ named_by xs line e) q ≡ count_tables xs q + count_tables (named_by xs line e) q
       all = count-append xs (named_by xs line e) q
 
-      in_front : j < count_tables xs q → Has (IsAt (element q j)) (xs ++ named_by xs line e)
-      in_front lower = has_append_left (IsAt (element q j)) xs (named_by xs line e) (are j lower)
+      in_front : j < count_tables xs q → Has (IsNamedAt (element q j)) (xs ++ named_by xs line e)
+      in_front lower = has_append_left (IsNamedAt (element q j)) xs (named_by xs line e) (are j lower)
 
-      by : (k : ℕ) → count_tables (named_by xs line e) q ≡ k → Has (IsAt (element q j)) (xs ++ named_by xs line e)
+      by : (k : ℕ) → count_tables (named_by xs line e) q ≡ k → Has (IsNamedAt (element q j)) (xs ++ named_by xs line e)
       by zero none = in_front (omega (arith, all, none, low))
       by (suc k) is =
           let one = line_element xs line e (λ no. absurd (omega (arith, is, no))) in
           elim (split j (count_tables xs q) (let two = one.0 in omega (arith, all, two, low))) [
             | inl lower ↦ in_front lower
-            | inr here ↦ has_append_right (IsAt (element q j)) xs (named_by xs line e) (subst (λ c. Has (IsAt (element q c)) (named_by xs line e)) (sym here) one.1)
+            | inr here ↦ has_append_right (IsNamedAt (element q j)) xs (named_by xs line e) (subst (λ c. Has (IsNamedAt (element q c)) (named_by xs line e)) (sym here) one.1)
           ]
         where
           split : (x y : ℕ) → x < y + 1 → (x < y) ⊎ (x ≡ y)

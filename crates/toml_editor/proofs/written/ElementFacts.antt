@@ -14,7 +14,7 @@ use Rattle.toml_edits.specs.Faults.{IsElementOf, IsFault, IsNextIndex}
 use Rattle.toml_edits.specs.declared.fault.EditFault.TheVariants.{AddressLength, IndexOutside, NoSuchPlace, NotAnElement, NotATable}
 use Rattle.toml_editor.proofs.written.Closed.{no_end}
 use Rattle.toml_editor.proofs.written.Fitting.{at_most, last_step}
-use Rattle.toml_editor.proofs.written.SectionFacts.{IsNextElement}
+use Rattle.toml_editor.proofs.written.SectionFacts.{HasSoMany, IsNextElement}
 
 module _ (profile : Profile) (q : Address) (i : ℕ) (kinds : Kinds) (closed : IsClosed kinds) (none : IsFault profile (new_element (element q i)) kinds None) where
   abbrev p : Address
@@ -57,15 +57,14 @@ module _ (profile : Profile) (q : Address) (i : ℕ) (kinds : Kinds) (closed : I
   abbrev OfKind : Option Kind → Type 0
   OfKind o = MatchOption o (i ≡ 0) (λ k. (k ≡ an_array) × ((j : ℕ) → j < i → IsSome (kinds (element q j))) × (kinds (element q i) ≡ None))
 
-  is_next : ((kinds q ≡ None) × (i ≡ 0)) ⊎ ((kinds q ≡ Some an_array) × ((j : ℕ) → j < i → IsSome (kinds (element q j))))
+  is_next : HasSoMany kinds q i
   is_next = by (kinds q) refl not_not
     where
       first : (n : ℕ) → ¬ ¬ (n ≡ 0) → n ≡ 0
       first zero h = refl
       first (suc n) h = absurd (h (λ e. cc))
 
-      by : (o : Option Kind) → kinds q ≡ o → ¬ ¬ OfKind o
-          → ((kinds q ≡ None) × (i ≡ 0)) ⊎ ((kinds q ≡ Some an_array) × ((j : ℕ) → j < i → IsSome (kinds (element q j))))
+      by : (o : Option Kind) → kinds q ≡ o → ¬ ¬ OfKind o → HasSoMany kinds q i
       by None e h = inl (e, first i h)
       by (Some a_table) e h = absurd (h (λ w. (let x = w.0 in cc)))
       by (Some (a_scalar v)) e h = absurd (h (λ w. (let x = w.0 in cc)))

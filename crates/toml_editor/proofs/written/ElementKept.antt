@@ -1,4 +1,4 @@
--- What is kept by a new element of an array of tables: the table rules, the bound on addresses, the data, the forms, the profile.
+-- What is kept by a new element of an array of tables: the table rules, the bound on addresses, the data.
 use Rattle.std.proofs.Common.{◌≡◌, ◌⊎◌, inl, inr, ◌≤◌, ℕ, ◌==◌, Bool, true, false, cond, Some, None, List, [], ◌∷◌, ◌++◌, length, length-append, refl, sym, ap, ◌∙◌, subst, append-nil, arith}
 use Rattle.std.specs.List.{list_any}
 use Rattle.std.proofs.lemmas.Bool.Decides.{nat_tests}
@@ -27,8 +27,8 @@ use Rattle.toml_editor.proofs.written.HeaderLeads.{IsKindAt, fronts_are_tables}
 use Rattle.toml_editor.proofs.written.HeaderPut.{IsHeaderPut}
 use Rattle.toml_editor.proofs.written.Pairwise.{Has}
 use Rattle.toml_editor.proofs.written.SectionFacts.{IsNextElement}
-use Rattle.toml_editor.proofs.written.SectionFormed.{header_forms, header_of_profile}
-use Rattle.toml_editor.proofs.written.SectionNamed.{IsPutThere, follows, put_there}
+use Rattle.toml_editor.proofs.written.HeaderFormed.{header_forms, header_of_profile}
+use Rattle.toml_editor.proofs.written.SectionNamed.{IsNamedBetween, follows, named_between}
 
 -- the array, or the element
 abbrev IsElementEnd : Address → ℕ → Named → Type 0
@@ -48,8 +48,8 @@ module _ (q : Address) (i : ℕ) (style : List ℕ) (old new : List Line) (put :
       below m (inl at) = ([], at.0 ∙ sym (append-nil q))
       below m (inr at) = (Index i ∷ [], at.0)
 
-  there : IsPutThere (element_block q i) put.front put.back old new
-  there = subst (λ ms. IsPutThere ms put.front put.back old new) (element_named q i style old new put) (put_there Two (element q i) style old new put)
+  there : IsNamedBetween (element_block q i) put.front put.back old new
+  there = subst (λ ms. IsNamedBetween ms put.front put.back old new) (element_named q i style old new put) (named_between Two (element q i) style old new put)
 
 -- what a name follows on the way to the array is a table
 passes_tables : (q : Address) (i : ℕ) (lines : List Line) (kinds : Kinds) → KeepsRules (named lines) → IsDataOf (named lines) kinds → IsNextElement q i kinds
@@ -129,13 +129,3 @@ element_data profile q i style old new kinds after put keeps is next is' = (q, i
         placed : (r : Address) (k : Kind) → an_empty_table r ≡ Some k → Has (IsKindAt (element q i ++ r) k) (ends_element i q)
         placed [] k have = inr (inl (sym (append-nil (element q i)), same_Some a_table k have))
         placed (s ∷ r) k have = cc
-
--- the new lines are in the forms
-pub element_forms : (q : Address) (i : ℕ) (style : List ℕ) (old new : List Line) → IsHeaderPut Two (element q i) style old new
-    → AreLines old → IsNewline style → AreLines new
-element_forms q i = header_forms Two (element q i)
-
--- and of each profile of which the old ones are
-pub element_of_profile : (profile : Profile) (q : Address) (i : ℕ) (style : List ℕ) (old new : List Line) → IsHeaderPut Two (element q i) style old new
-    → AreLinesOfProfile profile old → AreLinesOfProfile profile new
-element_of_profile profile q i = header_of_profile profile Two (element q i)

@@ -26,9 +26,9 @@ use Rattle.toml_editor.proofs.written.DocumentSections.{named_next}
 use Rattle.toml_editor.proofs.written.ElementCounted.{apart_element, next_leads}
 use Rattle.toml_editor.proofs.written.ElementHeaded.{element_headed, inner_is, none_holds}
 use Rattle.toml_editor.proofs.written.EmptyAlone.{not_any}
-use Rattle.toml_editor.proofs.written.HeaderPlace.{header_put}
+use Rattle.toml_editor.proofs.written.HeaderPlace.{header_put_plainly}
 use Rattle.toml_editor.proofs.written.HeaderPut.{IsApart}
-use Rattle.toml_editor.proofs.written.HeaderThere.{IsPlaced}
+use Rattle.toml_editor.proofs.written.HeaderThere.{StandsWithHeader}
 use Rattle.toml_editor.proofs.written.SectionFacts.{IsNextElement}
 use Rattle.toml_editor.proofs.written.TablesStay.{begins_under, under_begins}
 
@@ -98,12 +98,12 @@ module _ (e array : Address) (i : ℕ) (e_is : e ≡ element array i) (rest : Ad
       by (ArrayTableLine ws header tail) is or' off = headed (ArrayTableLine ws header tail) tt off
 
 -- by layout `Plain` the header line goes where it may stand
-pub element_goes : (q : Address) (i : ℕ) (style : List ℕ) (lines : List Line) (kinds : Kinds) → AreLines lines → KeepsRules (named lines) → IsDataOf (named lines) kinds
+pub element_put_plainly : (q : Address) (i : ℕ) (style : List ℕ) (lines : List Line) (kinds : Kinds) → AreLines lines → KeepsRules (named lines) → IsDataOf (named lines) kinds
     → IsNextElement q i kinds → list_any (holds q) (standing lines) ≡ false
-    → IsPlaced Two (element q i) style lines (header_lines q Two (element q i) style lines)
+    → StandsWithHeader Two (element q i) style lines (header_lines q Two (element q i) style lines)
     (put_plainly (innermost q) (new_header (element q i) Two []) style (standing lines))
-element_goes q i style lines kinds forms keeps facts next outside =
-    header_put Two (element q i) q style lines forms (next_leads q i lines kinds keeps facts next outside []) headed apart
+element_put_plainly q i style lines kinds forms keeps facts next outside =
+    header_put_plainly Two (element q i) q style lines forms (next_leads q i lines kinds keeps facts next outside []) headed apart
   where
     headed : (e : Address) → innermost q ≡ Some e → has_below e (standing lines) ≡ true
     headed e inner =

@@ -43,7 +43,7 @@ use Rattle.toml_editor.proofs.written.Closed.{no_end}
 use Rattle.toml_editor.proofs.written.ElementFacts.{element_room}
 use Rattle.toml_editor.proofs.written.Follow.{follows}
 use Rattle.toml_editor.proofs.written.FollowedFacts.{name_is_no_element}
-use Rattle.toml_editor.proofs.written.HeaderGoes.{element_put, section_put}
+use Rattle.toml_editor.proofs.written.HeaderLaidOut.{element_laid_out, section_laid_out}
 use Rattle.toml_editor.proofs.written.InTurn.{header_is_taken}
 use Rattle.toml_editor.proofs.written.SectionFacts.{section_room}
 use Rattle.toml_editor.proofs.written.StandingOrder.{rules_order}
@@ -114,7 +114,7 @@ section_follows profile read old new p text kinds now at none is_after (q, name,
     let room = section_room profile q name kinds (subst (λ x. IsFault profile (new_section x) kinds None) own none) in
     let array : ArrayIsNotRoot q p = subst (ArrayIsNotRoot q) (sym own) (λ some root. (let x = name_is_no_element q name in cc)) in
     let put = header_put_in (manner old).layout q One p (manner old) lines in
-    let goes = section_put q name (manner old) lines kinds at.good.spelled.0.lines.forms at.good.good.0 at.good.facts room outside in
+    let goes = section_laid_out q name (manner old) lines kinds at.good.spelled.0.lines.forms at.good.good.0 at.good.facts room outside in
     let (is_done, stands, mannered) = header_made profile read old new One p q (Name name) text kinds at own outside array rest steps spells done puts put
     (subst (λ x. standing (header_put_in (manner old).layout q One x (manner old) lines) ≡ header_laid_out (manner old).layout q x One (manner old) (may_write_blank old) (standing lines))
     (sym own) goes.stands) in (
@@ -133,7 +133,7 @@ element_follows profile read old new p text kinds now at none is_after (q, i, ow
     let room = element_room profile q i kinds (lines_are_closed lines kinds at.good.good.0 at.good.facts) (subst (λ x. IsFault profile (new_element x) kinds None) own none) in
     let array : ArrayIsNotRoot q p = (λ some root. no_end room.table.0 (Name room.table.1) [] (sym root ∙ room.table.2)) in
     let put = header_put_in (manner old).layout q Two p (manner old) lines in
-    let goes = element_put q i (manner old) lines kinds at.good.spelled.0.lines.forms at.good.good.0 at.good.facts room outside in
+    let goes = element_laid_out q i (manner old) lines kinds at.good.spelled.0.lines.forms at.good.good.0 at.good.facts room outside in
     let (is_done, stands, mannered) = header_made profile read old new Two p q (Index i) text kinds at own outside array rest steps spells done puts put
     (subst (λ x. standing (header_put_in (manner old).layout q Two x (manner old) lines) ≡ header_laid_out (manner old).layout q x Two (manner old) (may_write_blank old) (standing lines))
     (sym own) goes.stands) in (

@@ -26,7 +26,7 @@ use Rattle.toml_editor.proofs.written.HeaderCounted.{Enters, enters}
 use Rattle.toml_editor.proofs.written.HeaderLeads.{IsKindAt}
 use Rattle.toml_editor.proofs.written.Pairwise.{PairsAre, Goes, Has, any_of_has, all_of_pairs, from_has, has_of_any, has_weaker, members_self, pairs_append, pairs_back, pairs_between, pairs_front, pairs_of_all}
 use Rattle.toml_editor.proofs.written.Plain.{behind, plain_alike}
-use Rattle.toml_editor.proofs.written.SectionNamed.{HasNames, IsPutThere, end_under}
+use Rattle.toml_editor.proofs.written.SectionNamed.{HasNames, IsNamedBetween, end_behind_name}
 use Rattle.toml_editor.proofs.written.SectionRoles.{HasKind, IsLater, IsNotOver, RoleHas, all_later, kinds_are, none_over}
 use Rattle.toml_editor.proofs.written.Unplain.{each_plain, has_plain, plain_has, plain_short, rules_plain, short_plain}
 
@@ -72,14 +72,14 @@ module _ (E : Named → Type 0) (end : Address → List Named) (xs : List Named)
   of_header (n ∷ []) at are = each_weaker E (IsOfHeader E (child at n) xs) (λ m is. inl is) (end (child at n)) are
   of_header (n ∷ m ∷ more) at are =
       let to = entered xs (child at n) in
-      let (r, under) = end_under xs more to m in
+      let (r, under) = end_behind_name xs more to m in
       ((inr (record { kind = refl; role = refl; name = m; rest = r; is = under; there = λ c i is. entered_there at n c i is })), of_header (m ∷ more) to are)
 
   -- what is passed goes before what is named behind it
   passes_first : (to : Address) (m : List ℕ) (more : Key) (x : Named) → IsAtEnd E (header_end xs to (m ∷ more)) → IsOfHeader E (header_end xs to (m ∷ more)) xs x
       → Goes (table_at 0 Passed to) x
   passes_first to m more x ends (inl is) same =
-      let (r, under) = end_under xs more to m in
+      let (r, under) = end_behind_name xs more to m in
       let (rest, at) = ends x is in
       absurd (above_apart to x.address (Name m, r ++ rest, at ∙ ap (λ (a : Address). a ++ rest) under ∙ append_assoc to (Name m ∷ r) rest) (sym same))
   passes_first to m more x ends (inr passed) same = subst (λ r. may_follow Passed r ≡ true) (sym passed.role) refl
@@ -256,7 +256,7 @@ module _ (kinds : Kinds) (q : Address) (xs : List Named) where
 
 -- What the header names keeps the rules between what was named.
 pub header_rules : (E : Named → Type 0) (end : Address → List Named) (a : Address) (block : List Named) (old new front back : List Line) (kinds : Kinds) (q : Address)
-    → IsHeaderBlock E end a (named front) block → IsPutThere block front back old new → KeepsRules (named old) → IsDataOf (named old) kinds
+    → IsHeaderBlock E end a (named front) block → IsNamedBetween block front back old new → KeepsRules (named old) → IsDataOf (named old) kinds
     → list_any (holds q) (standing old) ≡ false → AreTables a kinds → ((r rest : Address) (n : List ℕ) → a ≡ r ++ Name n ∷ rest → (s : Address) × (q ≡ r ++ s))
     → ((m : Named) → E m → BothGo kinds q (named front) m) → KeepsRules (named new)
 header_rules E end a block old new front back kinds q are there keeps is alone tables over ends =

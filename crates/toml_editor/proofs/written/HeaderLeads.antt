@@ -29,12 +29,12 @@ use Rattle.toml_editor.proofs.written.Pairwise.{Has, any_of_has, has_append_left
 abbrev pub IsKindAt : Address → Kind → Named → Type 0
 IsKindAt at k m = (m.address ≡ at) × (m.kind ≡ k)
 
-abbrev IsAt : Address → Named → Type 0
-IsAt at m = m.address ≡ at
+abbrev pub IsNamedAt : Address → Named → Type 0
+IsNamedAt at m = m.address ≡ at
 
 -- where a name stands below an address, a table is named there
 abbrev NamesAreInTables : List Named → Type 0
-NamesAreInTables ms = (u : Address) (n : List ℕ) → Has (IsAt (child u n)) ms → Has (IsKindAt u a_table) ms
+NamesAreInTables ms = (u : Address) (n : List ℕ) → Has (IsNamedAt (child u n)) ms → Has (IsKindAt u a_table) ms
 
 -- the first kind at an address is named there
 fact_named : (ms : List Named) (at : Address) (k : Kind) → fact_at ms at ≡ Some k → Has (IsKindAt at k) ms
@@ -46,12 +46,12 @@ fact_named (m ∷ ms) at k is = by (same_address m.address at) refl is (fact_nam
     by true same here more = inl (same_is m.address at same, same_Some m.kind k here)
     by false other here more = inr (more here)
 
-kind_is_at : (at : Address) (k : Kind) (ms : List Named) → Has (IsKindAt at k) ms → Has (IsAt at) ms
-kind_is_at at k ms = has_weaker (IsKindAt at k) (IsAt at) (λ m h. h.0) ms
+kind_is_at : (at : Address) (k : Kind) (ms : List Named) → Has (IsKindAt at k) ms → Has (IsNamedAt at) ms
+kind_is_at at k ms = has_weaker (IsKindAt at k) (IsNamedAt at) (λ m h. h.0) ms
 
 -- what joins so is put in a table
 next_names : (ms : List Named) (m : Named) → NamesAreInTables ms → Joins ms m → NamesAreInTables (ms ++ m ∷ [])
-next_names ms m are joins u n has = elim (has_parts (IsAt (child u n)) ms (m ∷ []) has) [
+next_names ms m are joins u n has = elim (has_parts (IsNamedAt (child u n)) ms (m ∷ []) has) [
   | inl before ↦ has_append_left (IsKindAt u a_table) ms (m ∷ []) (are u n before)
   | inr (inr none) ↦ absurd none
   | inr (inl at) ↦ has_append_left (IsKindAt u a_table) ms (m ∷ []) (by joins at)
@@ -63,7 +63,7 @@ next_names ms m are joins u n has = elim (has_parts (IsAt (child u n)) ms (m ∷
         let next : IsNext (fact_at ms) u (Name n) =
         subst (λ s. IsNext (fact_at ms) u s) (sym same.1) (subst (λ (p : Address). IsNext (fact_at ms) p free.last) (sym same.0) free.next) in
         fact_named ms u a_table next
-    by (inr again) at = are u n (subst (λ a. Has (IsAt a) ms) at (kind_is_at m.address m.kind ms (fact_named ms m.address m.kind again.there)))
+    by (inr again) at = are u n (subst (λ a. Has (IsNamedAt a) ms) at (kind_is_at m.address m.kind ms (fact_named ms m.address m.kind again.there)))
 
 all_names : (more ms : List Named) → NamesAreInTables ms → JoinAll ms more → NamesAreInTables (ms ++ more)
 all_names [] ms are joins = subst NamesAreInTables (sym (append-nil ms)) are
@@ -92,7 +92,7 @@ module _ (lines : List Line) (kinds : Kinds) (keeps : KeepsRules (named lines)) 
   name_in_table : (u : Address) (n : List ℕ) → ¬ (kinds (child u n) ≡ None) → kinds u ≡ Some a_table
   name_in_table u n some = by (kinds (child u n)) refl
     where
-      named_so : (k : Kind) → kinds (child u n) ≡ Some k → Has (IsAt (child u n)) (named lines)
+      named_so : (k : Kind) → kinds (child u n) ≡ Some k → Has (IsNamedAt (child u n)) (named lines)
       named_so k is = kind_is_at (child u n) k (named lines) (has_of_any (IsKindAt (child u n) k) (named lines) ((data_is (child u n) k).0 is))
 
       by : (o : Option Kind) → kinds (child u n) ≡ o → kinds u ≡ Some a_table

@@ -65,7 +65,3 @@ pub record IsHeaderPut (brackets : Brackets) (p : Address) (style : List ℕ) (o
   pub leads : own_address (named front) (header_expr brackets p ws) ≡ Some p
   pub unkeyed : has_pair back ≡ false
   pub apart : IsApart brackets p front back
-
--- of a table
-abbrev pub IsSectionPut : Address → List ℕ → List Line → List Line → Type 0
-IsSectionPut = IsHeaderPut One

@@ -130,12 +130,12 @@ lines_there (l ∷ ls) are is = cc
 
 module _ (brackets : Brackets) (p : Address) (style : List ℕ) (lines : List Line) where
   -- the lines with it, and what stands on them
-  pub record IsPlaced (put : List Line) (stand : List Standing) : Type 0 where
+  pub record StandsWithHeader (put : List Line) (stand : List Standing) : Type 0 where
     pub header : IsHeaderPut brackets p style lines put
     pub stands : standing put ≡ stand
 
-  pub put_as : (put put' : List Line) (stand stand' : List Standing) → put' ≡ put → stand' ≡ stand → IsPlaced put stand → IsPlaced put' stand'
-  put_as put put' stand stand' e f it = subst (λ x. IsPlaced x stand') (sym e) (subst (IsPlaced put) (sym f) it)
+  pub put_as : (put put' : List Line) (stand stand' : List Standing) → put' ≡ put → stand' ≡ stand → StandsWithHeader put stand → StandsWithHeader put' stand'
+  put_as put put' stand stand' e f it = subst (λ x. StandsWithHeader x stand') (sym e) (subst (StandsWithHeader put) (sym f) it)
 
   pub some_line : AreLines lines → ¬ (shown lines ≡ [])
   some_line forms none = lines_there lines forms (sym (shown_lines lines (root ∷ []) 0) ∙ ap lines_of none)
@@ -151,10 +151,15 @@ module _ (brackets : Brackets) (p : Address) (style : List ℕ) (lines : List Li
     abbrev Leads : List Line → Type 0
     Leads front = own_address (named front) (header_expr brackets p ws) ≡ Some p
 
+    -- and so it does where the last of them gets a newline
+    leads_ended : (before : List Line) (last : Line) → Leads (before ++ last ∷ []) → Leads (before ++ ended style last ∷ [])
+    leads_ended before last leads =
+        ap (λ ms. own_address ms (header_expr brackets p ws)) (named_next before (ended style last) ∙ sym (named_next before last)) ∙ leads
+
     -- before one of the lines, where no key comes before the next header
     pub put_before : (front back : List Shown) → shown lines ≡ front ++ back → ¬ (lines_of back ≡ []) → has_pair (lines_of back) ≡ false
         → IsApart brackets p (lines_of front) (lines_of back) → Leads (lines_of front) → (put : List Line) (stand : List Standing)
-        → put ≡ lines_of front ++ h style ∷ lines_of back → stand ≡ stand_of front ++ new style ∷ stand_of back → IsPlaced put stand
+        → put ≡ lines_of front ++ h style ∷ lines_of back → stand ≡ stand_of front ++ new style ∷ stand_of back → StandsWithHeader put stand
     put_before front back was some unkeyed apart leads put stand is stands =
         let are = parts front back lines [] was in
         record {
@@ -175,7 +180,7 @@ module _ (brackets : Brackets) (p : Address) (style : List ℕ) (lines : List Li
 
     -- before a last line without bytes
     before_empty : (it : BeforeEmpty h new style (shown lines)) → Leads (lines_of it.front)
-        → IsPlaced (line_at_end h style lines) (put_at_text_end new style (standing lines))
+        → StandsWithHeader (line_at_end h style lines) (put_at_text_end new style (standing lines))
     before_empty it leads =
         put_before it.front (it.last ∷ []) it.was (λ none. cc) (no_bytes it.last.0 it.empty).1
         (apart_before_empty brackets p (lines_of it.front) it.last.0 it.empty) leads _ _
@@ -184,15 +189,13 @@ module _ (brackets : Brackets) (p : Address) (style : List ℕ) (lines : List Li
 
     -- behind the last line
     behind_last : AreLines lines → (it : BehindLast h new style (shown lines)) → Leads (lines_of it.front ++ it.last.0 ∷ [])
-        → IsPlaced (line_at_end h style lines) (put_at_text_end new style (standing lines))
+        → StandsWithHeader (line_at_end h style lines) (put_at_text_end new style (standing lines))
     behind_last forms it leads =
         let before = lines_of it.front in
         let last = it.last.0 in
         let are = parts it.front (it.last ∷ []) lines [] it.was in
         let opened = last_open before last (subst AreLines are.lines forms) in
         let closed = before ++ ended style last ∷ [] in
-        let names : named closed ≡ named (before ++ last ∷ []) = named_next before (ended style last) ∙ sym (named_next before last) in
-        let leads_closed : Leads closed = ap (λ ms. own_address ms (header_expr brackets p ws)) names ∙ leads in
         let is : line_at_end h style lines ≡ before ++ ended style last ∷ h [] ∷ [] =
         ap (line_at_end h style) (sym (shown_lines lines (root ∷ []) 0)) ∙ it.lines ∙ ap (λ t. before ++ line_behind_last h style last t) opened in
         let here : line_stands (named before) last ≡ it.last.1 = (let x = are.back_stands in cc) in
@@ -213,7 +216,7 @@ module _ (brackets : Brackets) (p : Address) (style : List ℕ) (lines : List Li
           };
           stands =
               ap standing (is ∙ sym (append_assoc before (ended style last ∷ []) (h [] ∷ [])))
-              ∙ put_stands brackets p closed [] ws [] leads_closed (apart_at_end brackets p closed) refl
+              ∙ put_stands brackets p closed [] ws [] (leads_ended before last leads) (apart_at_end brackets p closed) refl
               ∙ ap (λ s. s ++ new [] ∷ []) (standing_behind before (ended style last ∷ []) [] ∙ ap₂ (λ a b. a ++ b ∷ []) are.front_stands ends)
               ∙ append_assoc (stand_of it.front) (end_in style it.last.1 ∷ []) (new [] ∷ [])
               ∙ sym (ap (put_at_text_end new style) (sym (shown_stands lines (root ∷ []) 0)) ∙ it.stands
@@ -222,14 +225,12 @@ module _ (brackets : Brackets) (p : Address) (style : List ℕ) (lines : List Li
 
     -- behind the last line, which has no bytes and becomes a blank one
     pub behind_blank : (front : List Shown) (last : Shown) → shown lines ≡ front ++ last ∷ [] → has_no_bytes (line_outline last.0) ≡ true → Leads lines
-        → IsPlaced (line_at_end h style (blank_at_end style lines)) (put_at_text_end new style (put_at_text_end blank_line style (standing lines)))
+        → StandsWithHeader (line_at_end h style (blank_at_end style lines)) (put_at_text_end new style (put_at_text_end blank_line style (standing lines)))
     behind_blank front (last, s) was empty leads =
         let before = lines_of front in
         let are = parts front ((last, s) ∷ []) lines [] was in
         let closed = before ++ ended style last ∷ [] in
-        let names : named closed ≡ named (before ++ last ∷ []) = named_next before (ended style last) ∙ sym (named_next before last) in
         let leads_front : Leads (before ++ last ∷ []) = subst Leads are.lines leads in
-        let leads_closed : Leads closed = ap (λ ms. own_address ms (header_expr brackets p ws)) names ∙ leads_front in
         let is : line_at_end h style (blank_at_end style lines) ≡ before ++ ended style last ∷ h style ∷ empty_line ∷ [] =
         ap (line_at_end h style)
         (ap (blank_at_end style) are.lines ∙ blank_behind style before last ∙ sym (append_assoc before (ended style last ∷ []) (empty_line ∷ [])))
@@ -257,17 +258,17 @@ module _ (brackets : Brackets) (p : Address) (style : List ℕ) (lines : List Li
           };
           stands =
               ap standing (is ∙ sym (append_assoc before (ended style last ∷ []) (h style ∷ empty_line ∷ [])))
-              ∙ put_stands brackets p closed (empty_line ∷ []) ws style leads_closed (apart_before_empty brackets p closed empty_line refl) refl
+              ∙ put_stands brackets p closed (empty_line ∷ []) ws style (leads_ended before last leads_front) (apart_before_empty brackets p closed empty_line refl) refl
               ∙ ap (λ s. s ++ new style ∷ blank_line [] ∷ [])
               (standing_behind before (ended style last ∷ []) [] ∙ ap₂ (λ a b. a ++ b ∷ []) are.front_stands (empty_stands (named before) last (fresh style) empty))
               ∙ append_assoc (stand_of front) (blank_line style ∷ []) (new style ∷ blank_line [] ∷ []) ∙ sym put;
         }
 
-    -- at the end, where it leads to the address, if each index on the way is that of the last table of its array
-    pub end_put : (way : Address) → AreLines lines
-        → ((front back : List Line) → lines ≡ front ++ back → AreLast (named front) way → IsApart brackets p front back → Leads front) → AreLast (named lines) way
-        → IsPlaced (line_at_end h style lines) (put_at_text_end new style (standing lines))
-    end_put way forms leads last = elim (at_end h new style (shown lines) (shown_outlined lines (root ∷ []) 0) (some_line forms)) [
+    -- at the end, where it leads to the address, if each index in `q` is that of the last table of its array
+    pub end_put : (q : Address) → AreLines lines
+        → ((front back : List Line) → lines ≡ front ++ back → AreLast (named front) q → IsApart brackets p front back → Leads front) → AreLast (named lines) q
+        → StandsWithHeader (line_at_end h style lines) (put_at_text_end new style (standing lines))
+    end_put q forms leads last = elim (at_end h new style (shown lines) (shown_outlined lines (root ∷ []) 0) (some_line forms)) [
       | inl it ↦
           let front = lines_of it.front in
           let are = parts it.front (it.last ∷ []) lines [] it.was in
@@ -278,5 +279,5 @@ module _ (brackets : Brackets) (p : Address) (style : List ℕ) (lines : List Li
       | inr it ↦
           let front = lines_of it.front ++ it.last.0 ∷ [] in
           let are = parts it.front (it.last ∷ []) lines [] it.was in
-          behind_last forms it (leads front [] (are.lines ∙ sym (append-nil front)) (subst (λ ls. AreLast (named ls) way) are.lines last) (apart_at_end brackets p front))
+          behind_last forms it (leads front [] (are.lines ∙ sym (append-nil front)) (subst (λ ls. AreLast (named ls) q) are.lines last) (apart_at_end brackets p front))
     ]

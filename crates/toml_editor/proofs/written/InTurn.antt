@@ -26,28 +26,13 @@ use Rattle.toml_editor.proofs.written.Clear.{same_is}
 use Rattle.toml_editor.proofs.written.Counted.{counts_grow, own_counts}
 use Rattle.toml_editor.proofs.written.CountedArrays.{element_unnamed, end_named}
 use Rattle.toml_editor.proofs.written.DocumentSections.{IsLineOf, headed_at, line_of}
+use Rattle.toml_editor.proofs.written.ElementHeaded.{inner_is}
 use Rattle.toml_editor.proofs.written.HeadersAlone.{lower}
 use Rattle.toml_editor.proofs.written.InsertStands.{root_comes_first}
 use Rattle.toml_editor.proofs.written.OneSection.{among_of}
 use Rattle.toml_editor.proofs.written.StandingOrder.{begins_is}
 
 -- ---- addresses
-
--- an element of an array
-abbrev IsElement : Address → Type 0
-IsElement e = (r : Address) × (i : ℕ) × (e ≡ element r i)
-
--- the innermost element is one
-inner_element : (q e : Address) → innermost q ≡ Some e → IsElement e
-inner_element [] e is = absurd cc
-inner_element (s ∷ steps) e is = by (innermost steps) refl s is (inner_element steps)
-  where
-    by : (o : Option Address) → innermost steps ≡ o → (t : Step) → inner_of o t ≡ Some e → ((a : Address) → innermost steps ≡ Some a → IsElement a) → IsElement e
-    by (Some inner) there t here again =
-        let more = again inner there in
-        (t ∷ more.0, more.1, sym (same_Some (t ∷ inner) e here) ∙ ap (λ a. t ∷ a) more.2)
-    by None there (Name n) here again = absurd cc
-    by None there (Index i) here again = ([], i, sym (same_Some (Index i ∷ []) e here))
 
 abbrev element_at : Address × ℕ → Address
 element_at p = element p.0 p.1
@@ -212,7 +197,7 @@ header_is_taken layout q lines are keeps =
   where
     inner : (o : Option Address) → innermost q ≡ o → ElementStands o (standing lines)
     inner None is = tt
-    inner (Some e) is = let element_there = inner_element q e is in stand_in_turn lines e element_there.0 element_there.1 element_there.2
+    inner (Some e) is = let it = inner_is q e is in stand_in_turn lines e it.array it.index it.is
 
     by : (l : _) → ElementIn l q (standing lines)
     by layouts.Plain = inner (innermost q) refl

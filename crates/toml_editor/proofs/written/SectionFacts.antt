@@ -19,8 +19,8 @@ use Rattle.toml_editor.specs.EditedLines.{IsInNoValue}
 use Rattle.toml_editor.proofs.written.ElementHeaded.{element_headed}
 use Rattle.toml_editor.proofs.written.Fitting.{at_most}
 use Rattle.toml_editor.proofs.written.HeaderLeads.{leads}
-use Rattle.toml_editor.proofs.written.HeaderPlace.{header_put}
-use Rattle.toml_editor.proofs.written.HeaderThere.{IsPlaced}
+use Rattle.toml_editor.proofs.written.HeaderPlace.{header_put_plainly}
+use Rattle.toml_editor.proofs.written.HeaderThere.{StandsWithHeader}
 
 -- a table stands at the address, nothing does at the name in it, and that is short enough
 pub record IsRoom (q : Address) (name : List ℕ) (kinds : Kinds) : Type 0 where
@@ -45,18 +45,22 @@ section_room profile q name kinds none = record {
     of_free None is = is
     of_free (Some k) is = absurd (none AlreadyThere (q, name, refl, subst IsSome (sym is) refl))
 
+-- the array is not there, and so many are none, or it is there, and has so many elements
+abbrev pub HasSoMany : Kinds → Address → ℕ → Type 0
+HasSoMany kinds q i = ((kinds q ≡ None) × (i ≡ 0)) ⊎ ((kinds q ≡ Some an_array) × ((j : ℕ) → j < i → IsSome (kinds (element q j))))
+
 -- The element is the next one of its array, which a table has, or which is not there: then it is the first one.
 pub record IsNextElement (q : Address) (i : ℕ) (kinds : Kinds) : Type 0 where
   pub table : (r : Address) × (n : List ℕ) × (q ≡ child r n) × (kinds r ≡ Some a_table)
-  pub next : ((kinds q ≡ None) × (i ≡ 0)) ⊎ ((kinds q ≡ Some an_array) × ((j : ℕ) → j < i → IsSome (kinds (element q j))))
+  pub next : HasSoMany kinds q i
   pub free : kinds (element q i) ≡ None
   pub short : length (element q i) ≤ max_steps
 
 -- by layout `Plain` the header line goes where it may stand
-pub section_goes : (q : Address) (name style : List ℕ) (lines : List Line) (kinds : Kinds) → AreLines lines → KeepsRules (named lines) → IsDataOf (named lines) kinds
+pub section_put_plainly : (q : Address) (name style : List ℕ) (lines : List Line) (kinds : Kinds) → AreLines lines → KeepsRules (named lines) → IsDataOf (named lines) kinds
     → IsRoom q name kinds → IsInNoValue lines q
-    → IsPlaced One (child q name) style lines (header_lines q One (child q name) style lines)
+    → StandsWithHeader One (child q name) style lines (header_lines q One (child q name) style lines)
     (put_plainly (innermost q) (new_header (child q name) One []) style (standing lines))
-section_goes q name style lines kinds forms keeps facts room outside =
-    header_put One (child q name) q style lines forms (λ front back split reached apart. leads lines front back q name [] kinds split keeps facts room.table reached)
+section_put_plainly q name style lines kinds forms keeps facts room outside =
+    header_put_plainly One (child q name) q style lines forms (λ front back split reached apart. leads lines front back q name [] kinds split keeps facts room.table reached)
     (element_headed lines q kinds keeps facts room.table outside) (λ e inner front back unkeyed unheaded. tt)

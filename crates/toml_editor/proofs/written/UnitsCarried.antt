@@ -21,6 +21,7 @@ use Rattle.toml_names.specs.mentions.Rules.{KeepsRules}
 use Rattle.toml_names.proofs.Proved.{lines_are_closed, lines_have_data, places_are_not_named}
 use Rattle.toml_units.proofs.Proved.{units_are_named}
 use Rattle.toml_working.specs.Removing.{remove_lines}
+use Rattle.toml_editor.proofs.written.HeaderFormed.{header_forms}
 use Rattle.toml_editor.proofs.written.HeaderThere.{lines_there}
 use Rattle.toml_editor.proofs.written.RemoveKept.{remove_forms}
 use Rattle.toml_editor.proofs.written.RemovedEither.{left_clear, remove_good, remove_way}
@@ -42,10 +43,8 @@ use Rattle.toml_layout.specs.declared.tree.Brackets.TheVariants.{One, Two}
 use Rattle.toml_working.specs.Written.{HasLine, HasSection, HasValue}
 use Rattle.toml_editor.specs.EditedLines.{IsInNoValue, IsWritten, header_put_in}
 use Rattle.toml_editor.proofs.written.ElementFacts.{element_room}
-use Rattle.toml_editor.proofs.written.ElementKept.{element_forms}
-use Rattle.toml_editor.proofs.written.HeaderGoes.{element_put, section_put}
+use Rattle.toml_editor.proofs.written.HeaderLaidOut.{element_laid_out, section_laid_out}
 use Rattle.toml_editor.proofs.written.SectionFacts.{section_room}
-use Rattle.toml_editor.proofs.written.SectionFormed.{section_forms}
 use Rattle.toml_editor.proofs.written.SetKept.{set_short}
 use Rattle.toml_editor.proofs.written.SetFormed.{set_forms}
 use Rattle.toml_editor.proofs.written.WaySet.{set_way}
@@ -98,10 +97,10 @@ always : (c : Change) (manner : Manner) (ts : List (List ℕ)) (lines edited : L
 always c manner ts lines edited none way = way_weaker (puts_blank c manner lines ≡ false) (c ∷ []) (ts ∷ []) lines edited (λ is. tt) way
 
 -- a header line that is put in without one is one line more
-header_more : (brackets : Brackets) (q p : Address) (last : Step) (manner : Manner) (lines put : List Line) → p ≡ q ++ last ∷ [] → AreLines lines → IsInNoValue lines q
+header_is_one_more : (brackets : Brackets) (q p : Address) (last : Step) (manner : Manner) (lines put : List Line) → p ≡ q ++ last ∷ [] → AreLines lines → IsInNoValue lines q
     → standing put ≡ header_laid_out manner.layout q p brackets manner manner.may_blank (standing lines)
     → blank_standing (parent_of p) p brackets manner manner.may_blank (standing lines) ≡ false → IsOneMore lines put
-header_more brackets q p last manner lines put at forms outside is none =
+header_is_one_more brackets q p last manner lines put at forms outside is none =
     one_more manner.layout q p brackets manner manner.may_blank lines put (lines_there lines forms) is
     (sym (ap (λ b. not b && blank_laid_out manner.layout q p brackets manner manner.may_blank (standing lines)) outside)
     ∙ ap (λ r. blank_standing r p brackets manner manner.may_blank (standing lines)) (sym (parent_is q last) ∙ ap parent_of (sym at)) ∙ none)
@@ -226,14 +225,14 @@ remove_goes p profile manner before after old now newline good none is_after (d,
       way = always (remove p) manner [] lines (remove_lines p lines) refl (remove_way p lines good.spelled.0.lines.forms has_line good.good.0 far);
     }
 
-section_ways : (p : Address) → HaveWays (new_section p)
-section_ways p profile manner before after old now newline good none is_after (d, spells, edited, (q, name, at, outside, made), text) =
+section_goes : (p : Address) → HaveWays (new_section p)
+section_goes p profile manner before after old now newline good none is_after (d, spells, edited, (q, name, at, outside, made), text) =
     let same : d ≡ good.tree = one_tree d good.tree before spells.0 good.spelled.0 in
     let lines = good.tree.lines in
     let forms = good.spelled.0.lines.forms in
     let room = section_room profile q name old (subst (λ x. IsFault profile (new_section x) old None) at none) in
     let outside' = subst (λ (x : Doc). IsInNoValue x.lines q) same outside in
-    let there = section_put q name manner lines old forms good.good.0 good.facts room outside' in
+    let there = section_laid_out q name manner lines old forms good.good.0 good.facts room outside' in
     let put = there.header in
     let edited' = header_put_in manner.layout q One (child q name) manner lines in
     let lines_are : edited ≡ edited' =
@@ -242,24 +241,24 @@ section_ways p profile manner before after old now newline good none is_after (d
       comments_in = [];
       comments_are = refl;
       edited = edited';
-      forms = section_forms q name manner.newline lines edited' put forms newline;
+      forms = header_forms One (child q name) manner.newline lines edited' put forms newline;
       text =
           text ∙ ap (λ (x : Doc). x.mark.text ++ joined (lines_parts edited)) same
           ∙ ap (λ ls. good.tree.mark.text ++ joined (lines_parts ls)) lines_are;
       way =
           subst (λ x. HasWayIf (puts_blank (new_section x) manner lines ≡ false) (new_section x ∷ []) ([] ∷ []) lines edited') (sym at)
           (way_weaker (puts_blank (new_section (child q name)) manner lines ≡ false) (new_section (child q name) ∷ []) ([] ∷ []) lines edited'
-          (header_more One q (child q name) (Name name) manner lines edited' refl forms outside' there.stands) (section_way q name manner.newline lines edited' put forms));
+          (header_is_one_more One q (child q name) (Name name) manner lines edited' refl forms outside' there.stands) (section_way q name manner.newline lines edited' put forms));
     }
 
-element_ways : (p : Address) → HaveWays (new_element p)
-element_ways p profile manner before after old now newline good none is_after (d, spells, edited, (q, i, at, outside, made), text) =
+element_goes : (p : Address) → HaveWays (new_element p)
+element_goes p profile manner before after old now newline good none is_after (d, spells, edited, (q, i, at, outside, made), text) =
     let same : d ≡ good.tree = one_tree d good.tree before spells.0 good.spelled.0 in
     let lines = good.tree.lines in
     let forms = good.spelled.0.lines.forms in
     let room = element_room profile q i old (lines_are_closed lines old good.good.0 good.facts) (subst (λ x. IsFault profile (new_element x) old None) at none) in
     let outside' = subst (λ (x : Doc). IsInNoValue x.lines q) same outside in
-    let there = element_put q i manner lines old forms good.good.0 good.facts room outside' in
+    let there = element_laid_out q i manner lines old forms good.good.0 good.facts room outside' in
     let put = there.header in
     let edited' = header_put_in manner.layout q Two (element q i) manner lines in
     let lines_are : edited ≡ edited' =
@@ -268,14 +267,14 @@ element_ways p profile manner before after old now newline good none is_after (d
       comments_in = [];
       comments_are = refl;
       edited = edited';
-      forms = element_forms q i manner.newline lines edited' put forms newline;
+      forms = header_forms Two (element q i) manner.newline lines edited' put forms newline;
       text =
           text ∙ ap (λ (x : Doc). x.mark.text ++ joined (lines_parts edited)) same
           ∙ ap (λ ls. good.tree.mark.text ++ joined (lines_parts ls)) lines_are;
       way =
           subst (λ x. HasWayIf (puts_blank (new_element x) manner lines ≡ false) (new_element x ∷ []) ([] ∷ []) lines edited') (sym at)
           (way_weaker (puts_blank (new_element (element q i)) manner lines ≡ false) (new_element (element q i) ∷ []) ([] ∷ []) lines edited'
-          (header_more Two q (element q i) (Index i) manner lines edited' refl forms outside' there.stands) (element_way q i manner.newline lines edited' put forms));
+          (header_is_one_more Two q (element q i) (Index i) manner lines edited' refl forms outside' there.stands) (element_way q i manner.newline lines edited' put forms));
     }
 
 pub plain_goes : (c : Change) → HaveWays c
@@ -283,8 +282,8 @@ plain_goes (set p value) = set_goes p value
 plain_goes (insert p value) = insert_goes p value
 plain_goes (rename p to) = rename_goes p to
 plain_goes (remove p) = remove_goes p
-plain_goes (new_section p) = section_ways p
-plain_goes (new_element p) = element_ways p
+plain_goes (new_section p) = section_goes p
+plain_goes (new_element p) = element_goes p
 
 pub plain_is_carried : PlainIsCarried
 plain_is_carried c profile manner before after old now newline good none is_after written new =
