@@ -1,5 +1,5 @@
 -- What plain edits carry along, from text to text.
-use Rattle.std.proofs.Common.{◌≡◌, ◌⊎◌, inl, inr, ℕ, List, [], ◌∷◌, ◌++◌, length, refl, sym, ap, ◌∙◌, subst, Option, Some, None, IfSome, IsSome, map, true≢false, Bool, true, false, ◌&&◌}
+use Rattle.std.proofs.Common.{◌≡◌, ◌⊎◌, inl, inr, ℕ, List, [], ◌∷◌, ◌++◌, length, refl, sym, ap, ◌∙◌, subst, Option, Some, None, IfSome, IsSome, map, true≢false, Bool, true, false, ◌&&◌, ap₂}
 use Rattle.toml_tree.specs.Bare.{bare_lines}
 use Rattle.toml_tree.specs.Places.{put_doc}
 use Rattle.toml_tree.specs.Spells.{Spells, AreLines, joined, lines_parts, mark_of, EachIs}
@@ -110,6 +110,11 @@ abbrev HaveWays : Change → Type 0
 HaveWays c = (profile : Profile) (manner : Manner) (before after : List ℕ) (old now : Kinds) → IsNewline manner.newline → (good : IsGoodText profile before old)
     → IsFault profile c old None → IsAfter profile c old now → IsWritten profile c manner before after → HasGone c manner good.tree after
 
+-- the text, by lines of the tree that the text before spells
+edited_text : (good d : Doc) (made edited : List Line) (after : List ℕ) → d ≡ good → made ≡ edited → after ≡ d.mark.text ++ joined (lines_parts made)
+    → after ≡ good.mark.text ++ joined (lines_parts edited)
+edited_text good d made edited after same are text = text ∙ ap₂ (λ (x : Doc) ls. x.mark.text ++ joined (lines_parts ls)) same are
+
 rename_goes : (p : Address) (to : List ℕ) → HaveWays (rename p to)
 rename_goes p to profile manner before after old now newline good none is_after (d, spells, edited, made, text) = by (last_step p)
   where
@@ -118,9 +123,6 @@ rename_goes p to profile manner before after old now newline good none is_after 
 
     lines_are : edited ≡ rename_lines p to good.tree.lines
     lines_are = made ∙ ap (λ (x : Doc). rename_lines p to x.lines) same
-
-    text_is : after ≡ good.tree.mark.text ++ joined (lines_parts (rename_lines p to good.tree.lines))
-    text_is = text ∙ ap (λ (x : Doc). x.mark.text ++ joined (lines_parts edited)) same ∙ ap (λ ls. good.tree.mark.text ++ joined (lines_parts ls)) lines_are
 
     by : (p ≡ []) ⊎ ((q : Address) × (s : Step) × (p ≡ q ++ s ∷ [])) → HasGone (rename p to) manner good.tree after
     by (inl root) = absurd (none RootNamed root)
@@ -132,7 +134,7 @@ rename_goes p to profile manner before after old now newline good none is_after 
           comments_are = refl;
           edited = rename_lines p to good.tree.lines;
           forms = rename_forms p to good.tree.lines good.spelled.0.lines.forms;
-          text = text_is;
+          text = edited_text good.tree d edited (rename_lines p to good.tree.lines) after same lines_are text;
           way = always (rename p to) manner [] good.tree.lines (rename_lines p to good.tree.lines) refl
               (subst (λ x. HasWay (rename x to ∷ []) ([] ∷ []) good.tree.lines (rename_lines x to good.tree.lines)) (sym at)
               (rename_way q n to good.tree.lines good.spelled.0.lines.forms free good.good.0));
@@ -144,14 +146,12 @@ insert_goes p value profile manner before after old now newline good none is_aft
     let lines = good.tree.lines in
     let there' : HasSection lines q = subst (λ (x : Doc). HasSection x.lines q) same there in
     let lines_are : edited ≡ insert_in q name v manner lines = made ∙ ap (λ (x : Doc). insert_in q name v manner x.lines) same in
-    let text_is : after ≡ good.tree.mark.text ++ joined (lines_parts (insert_in q name v manner lines)) =
-    text ∙ ap (λ (x : Doc). x.mark.text ++ joined (lines_parts edited)) same ∙ ap (λ ls. good.tree.mark.text ++ joined (lines_parts ls)) lines_are in
     record {
       comments_in = texts (comments (inside [] v));
       comments_are = (v, is_value.0, refl);
       edited = insert_in q name v manner lines;
       forms = insert_forms q name v manner lines there' good.spelled.0.lines.forms newline is_value.0.form is_value.0.shallow;
-      text = text_is;
+      text = edited_text good.tree d edited (insert_in q name v manner lines) after same lines_are text;
       way = always (insert p value) manner (texts (comments (inside [] v))) lines (insert_in q name v manner lines) refl
           (subst (λ x. HasWay (insert x value ∷ []) (texts (comments (inside [] v)) ∷ []) lines (insert_in q name v manner lines)) (sym at)
           (insert_way q name value v manner lines there' good.spelled.0.lines.forms));
@@ -163,8 +163,6 @@ set_goes p value profile manner before after old now newline good none is_after 
     let lines = good.tree.lines in
     let there' : HasValue lines p = subst (λ (x : Doc). HasValue x.lines p) same there in
     let lines_are : edited ≡ set_lines p v lines = made ∙ ap (λ (x : Doc). set_lines p v x.lines) same in
-    let text_is : after ≡ good.tree.mark.text ++ joined (lines_parts (set_lines p v lines)) =
-    text ∙ ap (λ (x : Doc). x.mark.text ++ joined (lines_parts edited)) same ∙ ap (λ ls. good.tree.mark.text ++ joined (lines_parts ls)) lines_are in
     let apart : ¬ (p ≡ []) = none RootNamed in
     let fit = all_fit profile value v is_after.0 is_value is_after.1 p (λ r some low. none AddressLength (inr (is_after.0, is_after.1, r, some, low))) in
     let short = set_short p v lines apart there' good.good fit in
@@ -173,7 +171,7 @@ set_goes p value profile manner before after old now newline good none is_after 
       comments_are = (v, is_value.0, refl);
       edited = set_lines p v lines;
       forms = set_forms p v lines good.spelled.0.lines.forms is_value.0.form short;
-      text = text_is;
+      text = edited_text good.tree d edited (set_lines p v lines) after same lines_are text;
       way = always (set p value) manner (texts (comments (inside [] v))) lines (set_lines p v lines) refl
           (set_way p value v lines apart good.spelled.0.lines.forms is_value.0.form there' good.good.0);
     }
@@ -219,9 +217,7 @@ remove_goes p profile manner before after old now newline good none is_after (d,
       comments_are = refl;
       edited = remove_lines p lines;
       forms = forms;
-      text =
-          text ∙ ap (λ (x : Doc). x.mark.text ++ joined (lines_parts edited)) same
-          ∙ ap (λ ls. good.tree.mark.text ++ joined (lines_parts ls)) lines_are;
+      text = edited_text good.tree d edited (remove_lines p lines) after same lines_are text;
       way = always (remove p) manner [] lines (remove_lines p lines) refl (remove_way p lines good.spelled.0.lines.forms has_line good.good.0 far);
     }
 
@@ -242,9 +238,7 @@ section_goes p profile manner before after old now newline good none is_after (d
       comments_are = refl;
       edited = edited';
       forms = header_forms One (child q name) manner.newline lines edited' put forms newline;
-      text =
-          text ∙ ap (λ (x : Doc). x.mark.text ++ joined (lines_parts edited)) same
-          ∙ ap (λ ls. good.tree.mark.text ++ joined (lines_parts ls)) lines_are;
+      text = edited_text good.tree d edited edited' after same lines_are text;
       way =
           subst (λ x. HasWayIf (puts_blank (new_section x) manner lines ≡ false) (new_section x ∷ []) ([] ∷ []) lines edited') (sym at)
           (way_weaker (puts_blank (new_section (child q name)) manner lines ≡ false) (new_section (child q name) ∷ []) ([] ∷ []) lines edited'
@@ -268,9 +262,7 @@ element_goes p profile manner before after old now newline good none is_after (d
       comments_are = refl;
       edited = edited';
       forms = header_forms Two (element q i) manner.newline lines edited' put forms newline;
-      text =
-          text ∙ ap (λ (x : Doc). x.mark.text ++ joined (lines_parts edited)) same
-          ∙ ap (λ ls. good.tree.mark.text ++ joined (lines_parts ls)) lines_are;
+      text = edited_text good.tree d edited edited' after same lines_are text;
       way =
           subst (λ x. HasWayIf (puts_blank (new_element x) manner lines ≡ false) (new_element x ∷ []) ([] ∷ []) lines edited') (sym at)
           (way_weaker (puts_blank (new_element (element q i)) manner lines ≡ false) (new_element (element q i) ∷ []) ([] ∷ []) lines edited'
