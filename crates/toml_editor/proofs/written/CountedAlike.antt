@@ -1,6 +1,6 @@
 -- Behind lists in which each array of tables has as many tables, but for arrays that the lines do not see, lines without keys of their own
 -- sections stand alike.
-use Rattle.std.proofs.Common.{◌≡◌, ◌⊎◌, inl, inr, ℕ, ◌+◌, true, false, Option, Some, List, [], ◌∷◌, ◌++◌, length, refl, sym, ap, ap₂, ◌∙◌, true≢false, append-nil}
+use Rattle.std.proofs.Common.{◌≡◌, ◌⊎◌, inl, inr, ℕ, ◌+◌, false, Option, Some, List, [], ◌∷◌, ◌++◌, length, refl, sym, ap, ap₂, ◌∙◌, true≢false, append-nil}
 use Rattle.std.specs.List.{list_any}
 use Rattle.std.specs.Prelude.{◌==◌, ◌-◌, if◌then◌else◌}
 use Rattle.std.proofs.lemmas.Bool.{or_parts}
@@ -14,13 +14,11 @@ use Rattle.toml_names.specs.model.Addresses.{Address, below, child, element}
 use Rattle.toml_names.specs.reader.Names.{header_end, own_address}
 use Rattle.toml_names.proofs.Proved.{count-append, pairs_leave_alike, section_from-append}
 use Rattle.toml_units.specs.Units.{line_base}
-use Rattle.toml_layout.specs.Beginnings.{begins}
 use Rattle.toml_layout.specs.TreeOutlines.{line_outline}
 use Rattle.toml_working.specs.Inserting.{has_pair}
 use Rattle.toml_working.specs.Standing.{Standing, is_below, lies_below, line_stands, standing_from}
 use Rattle.toml_editor.proofs.written.Alike.{alike_self, section_pair}
 use Rattle.toml_editor.proofs.written.Clear.{IsUnder}
-use Rattle.toml_editor.proofs.written.DocumentSections.{begins_longer}
 use Rattle.toml_editor.proofs.written.EmptyAlone.{first_under, under_trans}
 use Rattle.toml_editor.proofs.written.TablesStay.{under_begins}
 use Rattle.toml_editor.proofs.written.UnitsAlike.{step_alike}

@@ -1,19 +1,16 @@
 -- Where the arrays of tables stand that what is named counts.
-use Rattle.std.proofs.Common.{◌≡◌, ◌∙◌, inl, inr, ℕ, zero, suc, ◌+◌, ◌-◌, ◌==◌, Bool, true, false, cond, Some, List, [], ◌∷◌, ◌++◌, refl, sym, ap, subst, arith}
-use Rattle.std.proofs.lemmas.Bool.Decides.{nat_tests}
+use Rattle.std.proofs.Common.{◌≡◌, ◌∙◌, inl, inr, ℕ, zero, suc, ◌+◌, Bool, true, false, List, [], ◌∷◌, ◌++◌, refl, ap, subst, arith}
 use Rattle.std.proofs.lemmas.List.{same_from_push}
-use Rattle.std.proofs.lemmas.Option.{same_Some}
 use Rattle.toml_tree.specs.Tree.{Expr, BlankLine, KeyValLine, TableLine, ArrayTableLine, Line}
 use Rattle.toml_names.specs.declared.model.address.Step.TheVariants.{Name, Index}
 use Rattle.toml_names.specs.mentions.Keys.{Key, part_name, rest_names}
 use Rattle.toml_names.specs.mentions.Mentions.{Named, an_array, count_tables, ends_tables, entered, followed, named, named_by, named_from, root, section}
-use Rattle.toml_names.specs.mentions.OwnAddresses.{IsHeaderLine}
 use Rattle.toml_names.specs.model.Addresses.{Address, child, element, same_address}
-use Rattle.toml_names.specs.reader.Names.{header_end, own_address}
+use Rattle.toml_names.specs.reader.Names.{header_end}
 use Rattle.toml_names.proofs.Proved.{count-append}
 use Rattle.toml_editor.proofs.written.Clear.{same_is}
 use Rattle.toml_editor.proofs.written.Closed.{no_end}
-use Rattle.toml_editor.proofs.written.Counted.{count_array, count_none, count_pair, count_table, last_or_earlier, one_if}
+use Rattle.toml_editor.proofs.written.Counted.{count_array, count_none, count_pair, count_table, one_if}
 use Rattle.toml_editor.proofs.written.Pairwise.{Has, has_append_left, has_append_right}
 
 -- ---- where arrays of tables stand

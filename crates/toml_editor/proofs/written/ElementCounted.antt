@@ -25,10 +25,10 @@ use Rattle.toml_working.specs.Headers.{has_below}
 use Rattle.toml_working.specs.Removing.{no_blank}
 use Rattle.toml_working.specs.Seeing.{is_sought_line}
 use Rattle.toml_working.specs.Standing.{Standing, holds, is_below, leads_to, lies_below, standing, standing_from}
-use Rattle.toml_editor.proofs.written.Clear.{IsUnder, below-cons, same_is}
+use Rattle.toml_editor.proofs.written.Clear.{below-cons, same_is}
 use Rattle.toml_editor.proofs.written.Counted.{AreLast, count_array, count_next, count_none, count_pair, count_table, counts_grow, last_or_earlier, one_if, own_counts}
 use Rattle.toml_editor.proofs.written.CountedArrays.{IsNamedLast, element_unnamed, followed_has}
-use Rattle.toml_editor.proofs.written.DocumentSections.{begins_longer, line_of, named_next}
+use Rattle.toml_editor.proofs.written.DocumentSections.{line_of, named_next}
 use Rattle.toml_editor.proofs.written.ElementHeaded.{some_named, unheaded_unnamed}
 use Rattle.toml_editor.proofs.written.EmptyAlone.{not_any}
 use Rattle.toml_editor.proofs.written.HeaderLeads.{IsNamedAt, leads}

@@ -1,14 +1,13 @@
 -- An element of an array of tables that stands in no value has a header line, or one below it does.
-use Rattle.std.proofs.Common.{◌≡◌, ℕ, ◌<◌, ◌+◌, Bool, true, false, ◌||◌, Option, Some, None, IsSome, List, [], ◌∷◌, ◌++◌, map, length, refl, sym, ap, ◌∙◌, subst, true≢false, append_assoc, arith, length-append}
+use Rattle.std.proofs.Common.{◌≡◌, ℕ, ◌+◌, Bool, true, false, ◌||◌, Option, Some, None, IsSome, List, [], ◌∷◌, ◌++◌, length, refl, sym, ap, ◌∙◌, subst, true≢false, append_assoc, arith, length-append}
 use Rattle.std.specs.Bool.{nat_lt}
 use Rattle.std.specs.List.{list_any}
 use Rattle.std.proofs.lemmas.Bool.{and_parts}
-use Rattle.std.proofs.lemmas.Bool.Decides.{nat_tests}
 use Rattle.toml_tree.specs.Spells.{EachIs}
 use Rattle.toml_tree.specs.Tree.{Expr, BlankLine, KeyValLine, TableLine, ArrayTableLine, Line}
 use Rattle.toml_names.specs.declared.model.address.Step.{Step}
 use Rattle.toml_names.specs.declared.model.address.Step.TheVariants.{Index, Name}
-use Rattle.toml_names.specs.mentions.Keys.{Key, key_names}
+use Rattle.toml_names.specs.mentions.Keys.{key_names}
 use Rattle.toml_names.specs.mentions.Mentions.{Kind, Named, a_table, named, named_by, root, section}
 use Rattle.toml_names.specs.mentions.Rules.{KeepsRules}
 use Rattle.toml_names.specs.model.Addresses.{Address, below, is_above}

@@ -3,9 +3,6 @@ use Rattle.std.proofs.Common.{◌≡◌, ◌⊎◌, inl, inr, ◌≤◌, ℕ, �
 use Rattle.std.specs.List.{list_any}
 use Rattle.std.proofs.lemmas.Bool.Decides.{nat_tests}
 use Rattle.std.proofs.lemmas.Option.{same_Some}
-use Rattle.toml_text.specs.Forms.{IsNewline}
-use Rattle.toml_tree.specs.Profiles.{AreLinesOfProfile}
-use Rattle.toml_tree.specs.Spells.{AreLines}
 use Rattle.toml_tree.specs.Tree.{Line}
 use Rattle.toml_tree.specs.declared.profile.Profile.{Profile}
 use Rattle.toml_names.specs.declared.model.address.Step.TheVariants.{Name, Index}
@@ -27,7 +24,6 @@ use Rattle.toml_editor.proofs.written.HeaderLeads.{IsKindAt, fronts_are_tables}
 use Rattle.toml_editor.proofs.written.HeaderPut.{IsHeaderPut}
 use Rattle.toml_editor.proofs.written.Pairwise.{Has}
 use Rattle.toml_editor.proofs.written.SectionFacts.{IsNextElement}
-use Rattle.toml_editor.proofs.written.HeaderFormed.{header_forms, header_of_profile}
 use Rattle.toml_editor.proofs.written.SectionNamed.{IsNamedBetween, follows, named_between}
 
 -- the array, or the element

@@ -1,6 +1,6 @@
 -- The working tree after a plain section or element stands for the text that it writes.
-use Rattle.std.proofs.Common.{◌≡◌, inl, inr, ℕ, Bool, true, false, ◌&&◌, ◌||◌, None, Some, List, [], ◌∷◌, ◌++◌, map, refl, sym, ap, ap₂, ◌∙◌, subst, subst₂}
-use Rattle.std.specs.Prelude.{is_some, not, option_map, string_bytes}
+use Rattle.std.proofs.Common.{◌≡◌, ℕ, Bool, true, false, ◌&&◌, ◌||◌, None, List, [], ◌∷◌, ◌++◌, map, refl, sym, ap, ap₂, ◌∙◌, subst, subst₂}
+use Rattle.std.specs.Prelude.{not, string_bytes}
 use Rattle.std.specs.declared.alloc.Global.{Global}
 use Rattle.std.specs.declared.string.String.{String}
 use Rattle.std.proofs.lemmas.Bool.{cond-false}
@@ -10,8 +10,7 @@ use Rattle.toml_tree.specs.Tree.{Line}
 use Rattle.toml_tree.specs.declared.profile.Profile.{Profile}
 use Rattle.toml_names.specs.declared.model.address.Step.{Step}
 use Rattle.toml_names.specs.declared.model.address.Step.TheVariants.{Index, Name}
-use Rattle.toml_names.specs.mentions.Mentions.{named}
-use Rattle.toml_names.specs.model.Addresses.{Address, child, element}
+use Rattle.toml_names.specs.model.Addresses.{Address}
 use Rattle.toml_names.specs.model.Data.{Kinds}
 use Rattle.toml_names.proofs.Proved.{lines_are_closed}
 use Rattle.toml_edits.specs.After.{IsAfter}
@@ -27,8 +26,8 @@ use Rattle.toml_working.specs.declared.working.Tree.{Tree}
 use Rattle.toml_working.specs.AddingHeaders.{IsAsked}
 use Rattle.toml_working.specs.Following.{ArrayIsNotRoot, may_write_blank}
 use Rattle.toml_working.specs.FollowingHeaders.{ends_in_newline}
-use Rattle.toml_working.specs.HeaderStanding.{blank_laid_out, blank_standing, header_laid_out}
-use Rattle.toml_working.specs.Headers.{element_of, innermost}
+use Rattle.toml_working.specs.HeaderStanding.{blank_standing, header_laid_out}
+use Rattle.toml_working.specs.Headers.{innermost}
 use Rattle.toml_working.specs.Manners.{Manner}
 use Rattle.toml_working.specs.Putting.{manner}
 use Rattle.toml_working.specs.PuttingHeaders.{AreSpellings}

@@ -9,7 +9,7 @@ use Rattle.toml_tree.specs.declared.profile.Profile.{Profile}
 use Rattle.toml_tree.specs.declared.profile.Profile.TheVariants.{One, Two}
 use Rattle.toml_names.specs.mentions.Keys.{Key}
 use Rattle.toml_names.specs.mentions.Mentions.{named}
-use Rattle.toml_names.specs.model.Addresses.{Address, child}
+use Rattle.toml_names.specs.model.Addresses.{Address}
 use Rattle.toml_layout.specs.declared.tree.Brackets.{Brackets}
 use Rattle.toml_layout.specs.declared.tree.Brackets.TheVariants as brackets
 use Rattle.toml_working.specs.Heading.{dotted_name, header_expr, header_line, key_named}

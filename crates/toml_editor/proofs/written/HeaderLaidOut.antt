@@ -1,5 +1,5 @@
 -- Where a header line goes in either layout: it may stand there, and what then stands on the lines is what is laid out.
-use Rattle.std.proofs.Common.{◌≡◌, ℕ, List}
+use Rattle.std.proofs.Common.{ℕ, List}
 use Rattle.toml_tree.specs.Spells.{AreLines}
 use Rattle.toml_tree.specs.Tree.{Line}
 use Rattle.toml_names.specs.mentions.Mentions.{named}

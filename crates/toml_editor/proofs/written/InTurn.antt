@@ -4,7 +4,6 @@ use Rattle.std.proofs.lemmas.List.{same_from_push}
 use Rattle.std.specs.Bool.{nat_lt}
 use Rattle.std.specs.Prelude.{option_map}
 use Rattle.std.proofs.lemmas.Bool.{and_parts}
-use Rattle.std.proofs.lemmas.Bool.Decides.{nat_tests}
 use Rattle.std.proofs.lemmas.Option.{same_Some}
 use Rattle.toml_tree.specs.Tree.{Expr, BlankLine, KeyValLine, TableLine, ArrayTableLine, Line}
 use Rattle.toml_names.specs.declared.model.address.Step.{Step}
@@ -17,7 +16,7 @@ use Rattle.toml_units.specs.Units.{line_base}
 use Rattle.toml_layout.specs.Beginnings.{begins}
 use Rattle.toml_layout.specs.declared.layout.Layout.TheVariants as layouts
 use Rattle.toml_working.specs.HeaderStanding.{ElementIn}
-use Rattle.toml_working.specs.Headers.{ElementStands, StandInTurn, begins_later, element_of, has_below, inner_of, innermost, is_later, later_in}
+use Rattle.toml_working.specs.Headers.{ElementStands, StandInTurn, begins_later, element_of, has_below, innermost, is_later, later_in}
 use Rattle.toml_working.specs.Seeing.{heads, heads_below, is_sought_line}
 use Rattle.toml_working.specs.Standing.{Standing, standing}
 use Rattle.toml_working.specs.declared.lines.Sought.TheVariants as sought

@@ -1,8 +1,8 @@
 -- Where the text of lines ends in a newline, the last of their units that is a line has no bytes.
-use Rattle.std.proofs.Common.{◌≡◌, inl, inr, ◌<◌, ◌+◌, ℕ, Bool, true, false, Option, Some, None, List, [], ◌∷◌, ◌++◌, map, length, refl, sym, ap, ap₂, ◌∙◌, subst, true≢false, arith, append-nil}
+use Rattle.std.proofs.Common.{◌≡◌, ◌+◌, ℕ, true, Option, Some, None, List, [], ◌∷◌, ◌++◌, map, length, refl, sym, ap, ap₂, ◌∙◌, subst, arith, append-nil}
 use Rattle.std.specs.Prelude.{is_some}
 use Rattle.toml_tree.specs.Spells.{AreLines, IsExpr, expr_parts, joined, lines_parts}
-use Rattle.toml_tree.specs.Tree.{Blank, Expr, BlankLine, KeyValLine, TableLine, ArrayTableLine, Line, Piece}
+use Rattle.toml_tree.specs.Tree.{Expr, BlankLine, KeyValLine, TableLine, ArrayTableLine, Line, Piece}
 use Rattle.toml_names.specs.mentions.Mentions.{Named, named_by, root}
 use Rattle.toml_units.specs.Bares.{bare_unit}
 use Rattle.toml_units.specs.declared.unit.UnitKind.TheVariants as kinds

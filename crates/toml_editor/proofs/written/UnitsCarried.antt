@@ -1,5 +1,5 @@
 -- What plain edits carry along, from text to text.
-use Rattle.std.proofs.Common.{◌≡◌, ◌⊎◌, inl, inr, ℕ, List, [], ◌∷◌, ◌++◌, length, refl, sym, ap, ◌∙◌, subst, Option, Some, None, IfSome, IsSome, map, true≢false, Bool, true, false, ◌&&◌, ap₂}
+use Rattle.std.proofs.Common.{◌≡◌, ◌⊎◌, inl, inr, ℕ, List, [], ◌∷◌, ◌++◌, length, refl, sym, ap, ◌∙◌, subst, Option, Some, None, IfSome, IsSome, map, true≢false, Bool, false, ◌&&◌, ap₂}
 use Rattle.toml_tree.specs.Bare.{bare_lines}
 use Rattle.toml_tree.specs.Places.{put_doc}
 use Rattle.toml_tree.specs.Spells.{Spells, AreLines, joined, lines_parts, mark_of, EachIs}

@@ -1,6 +1,6 @@
 -- The way of a new header line.
 use Rattle.std.proofs.Common.{◌≡◌, inl, inr, ℕ, ◌+◌, ◌<◌, ◌&&◌, Bool, false, true, Option, Some, None, List, [], ◌∷◌, ◌++◌, length}
-use Rattle.std.proofs.Common.{refl, sym, ap, ap₂, ◌∙◌, subst, true≢false, append-nil, arith}
+use Rattle.std.proofs.Common.{refl, sym, ap, ◌∙◌, subst, true≢false, append-nil, arith}
 use Rattle.std.specs.Prelude.{not}
 use Rattle.std.proofs.Math.Bool.{or-false}
 use Rattle.toml_tree.specs.Spells.{AreLines, EachIs}
@@ -15,14 +15,13 @@ use Rattle.toml_edits.specs.declared.side.Side.TheVariants as sides
 use Rattle.toml_edits.proofs.Proved.{sides_are_right}
 use Rattle.toml_layout.specs.declared.tree.Brackets.{Brackets}
 use Rattle.toml_layout.specs.declared.tree.Brackets.TheVariants.{One, Two}
-use Rattle.toml_units.specs.declared.unit.UnitKind.{UnitKind}
 use Rattle.toml_units.specs.declared.unit.UnitKind.TheVariants as kinds
 use Rattle.toml_units.specs.Units.{TextUnit, units}
 use Rattle.toml_checker.specs.declared.tables.Part.TheVariants as parts
 use Rattle.toml_checker.specs.CarriedTo.{At, IsAtOrAbove}
 use Rattle.toml_checker.specs.Comments.{is_comment, texts}
 use Rattle.toml_checker.specs.Owed.{IsOwed, Owes, result}
-use Rattle.toml_checker.specs.Plain.{Site, home_stands, is_kept, is_named, next_line, stands}
+use Rattle.toml_checker.specs.Plain.{Site, home_stands, is_named, stands}
 use Rattle.toml_editor.specs.UnitBlocks.{line_of_nothing}
 use Rattle.toml_editor.proofs.written.HeaderPut.{IsHeaderPut}
 use Rattle.toml_editor.proofs.written.UnitsHeaded.{IsOneMore, IsPutAlone, IsPutParted, header_block, header_units}

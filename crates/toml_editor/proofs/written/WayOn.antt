@@ -1,25 +1,22 @@
 -- A way of one edit, and a way of others that goes on from there: together they are a way of all.
-use Rattle.std.proofs.Common.{◌≡◌, ◌⊎◌, inl, inr, ◌≤◌, ◌+◌, ℕ, Bool, true, false, cond, ◌&&◌, Option, Some, None, option_map, option_and_then, List, [], ◌∷◌, map, length, refl, sym, ap, ap₂, ◌∙◌, subst, true≢false, arith}
+use Rattle.std.proofs.Common.{◌≡◌, ◌⊎◌, inl, inr, ◌≤◌, ◌+◌, ℕ, Bool, true, false, cond, ◌&&◌, Option, None, option_map, option_and_then, List, [], ◌∷◌, map, length, refl, sym, ap, ap₂, ◌∙◌, subst, true≢false, arith}
 use Rattle.std.specs.Str.{bytes_eq}
 use Rattle.std.proofs.Math.Bool.{and-false}
 use Rattle.std.proofs.lemmas.Bool.{and_parts}
-use Rattle.toml_names.specs.model.Addresses.{Address}
-use Rattle.toml_edits.specs.Carry.{carry}
 use Rattle.toml_edits.specs.Edits.{Change}
 use Rattle.toml_edits.specs.Lists.{carried}
 use Rattle.toml_units.specs.declared.unit.UnitKind.TheVariants as kinds
 use Rattle.toml_units.specs.Units.{TextUnit}
 use Rattle.toml_checker.specs.CarriedTo.{IsCarriedTo, At}
 use Rattle.toml_checker.specs.Comments.{is_comment, texts, times, IsWritten}
-use Rattle.toml_checker.specs.declared.tables.Part.TheVariants as parts
 use Rattle.toml_checker.specs.Owed.{IsOwed}
-use Rattle.toml_checker.specs.Plain.{Site, site, next_line, stands}
+use Rattle.toml_checker.specs.Plain.{Site, site, next_line}
 use Rattle.toml_units.specs.Bares.{bare_unit}
 use Rattle.toml_editor.proofs.written.Way.{Step, both, old, new, olds, news, one_line, is_here}
 use Rattle.toml_editor.proofs.written.WayComments.{added, comment_more, comment_on, comments, times_cons}
 use Rattle.toml_editor.proofs.written.WayFits.{Matches, IsAsked, Fits}
-use Rattle.toml_editor.proofs.written.WayKeeps.{moved_site, Ends, StaysIf, ComesOwed, KeepsIf, no_more, kept_on, moved_on, line_moved_on, line_is, lost_on, one_carried}
-use Rattle.toml_editor.proofs.written.WayOwed.{along, IsOwedBelow, owed_below, owed_on, below_on, written_on, at_map, OwedOn, line_owed, below_carried}
+use Rattle.toml_editor.proofs.written.WayKeeps.{moved_site, Ends, StaysIf, ComesOwed, KeepsIf, kept_on, moved_on, line_moved_on, line_is, lost_on, one_carried}
+use Rattle.toml_editor.proofs.written.WayOwed.{IsOwedBelow, written_on, at_map, OwedOn, line_owed, below_carried}
 
 -- each line that comes is owed, where not always a last line of no bytes stays the last
 abbrev pub IsSure : Type 0 → Change → List Step → Type 0
