@@ -45,7 +45,6 @@ pub mod HeaderKept
 pub mod HeaderLaidOut
 pub mod HeaderLaws
 pub mod HeaderLeads
-pub mod HeaderLength
 pub mod HeaderPlace
 pub mod HeaderPut
 pub mod HeaderSplit

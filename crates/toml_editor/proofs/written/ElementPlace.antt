@@ -98,12 +98,12 @@ module _ (e array : Address) (i : ℕ) (e_is : e ≡ element array i) (rest : Ad
       by (ArrayTableLine ws header tail) is or' off = headed (ArrayTableLine ws header tail) tt off
 
 -- by layout `Plain` the header line goes where it may stand
-pub element_put_plainly : (q : Address) (i : ℕ) (style : List ℕ) (lines : List Line) (kinds : Kinds) → AreLines lines → KeepsRules (named lines) → IsDataOf (named lines) kinds
+pub element_put_plainly : (q : Address) (i : ℕ) (style : List ℕ) (lines : List Line) (Blank : Type 0) (kinds : Kinds) → AreLines lines → KeepsRules (named lines) → IsDataOf (named lines) kinds
     → IsNextElement q i kinds → list_any (holds q) (standing lines) ≡ false
-    → StandsWithHeader Two (element q i) style lines (header_lines q Two (element q i) style lines)
+    → StandsWithHeader Two (element q i) style lines Blank (header_lines q Two (element q i) style lines)
     (put_plainly (innermost q) (new_header (element q i) Two []) style (standing lines))
-element_put_plainly q i style lines kinds forms keeps facts next outside =
-    header_put_plainly Two (element q i) q style lines forms (next_leads q i lines kinds keeps facts next outside []) headed apart
+element_put_plainly q i style lines Blank kinds forms keeps facts next outside =
+    header_put_plainly Two (element q i) q style lines Blank forms (next_leads q i lines kinds keeps facts next outside []) headed apart
   where
     headed : (e : Address) → innermost q ≡ Some e → has_below e (standing lines) ≡ true
     headed e inner =

@@ -14,7 +14,7 @@ use Rattle.toml_names.specs.model.Data.{IsDataOf, Kinds}
 use Rattle.toml_names.specs.reader.Names.{own_address}
 use Rattle.toml_names.proofs.Proved.{above_is_above}
 use Rattle.toml_layout.specs.declared.tree.Brackets.TheVariants.{One, Two}
-use Rattle.toml_working.specs.FollowingHeaders.{behind_family, family, header_behind, or_at_end, put_following, right_above}
+use Rattle.toml_working.specs.FollowingHeaders.{behind_family, family, header_behind, or_at_end, put_following, right_above, wants_blank, writes_blank}
 use Rattle.toml_working.specs.Heading.{header_expr, shown}
 use Rattle.toml_working.specs.Headers.{element_of}
 use Rattle.toml_working.specs.RemoveStanding.{makes}
@@ -94,15 +94,23 @@ line_below lines kinds facts q some outside not_root = by (list_any (is_below q)
 -- by layout `Follow` the header line goes where it may stand
 pub section_put_following : (q : Address) (name style : List ℕ) (may : Bool) (lines : List Line) (kinds : Kinds) → AreLines lines → KeepsRules (named lines)
     → IsDataOf (named lines) kinds → IsRoom q name kinds → list_any (holds q) (standing lines) ≡ false
-    → StandsWithHeader One (child q name) style lines (header_followed q One (child q name) style may lines) (put_following q (child q name) One style may (standing lines))
+    → StandsWithHeader One (child q name) style lines (writes_blank q (child q name) One style may (standing lines) ≡ true)
+    (header_followed q One (child q name) style may lines) (put_following q (child q name) One style may (standing lines))
 section_put_following q name style may lines kinds forms keeps facts room outside =
-    subst (λ f. StandsWithHeader One p style lines (header_at f) (put_at f)) (sym family_is)
-    (header_put_following One p q q style may lines forms (λ xs last. last)
+    subst (λ f. StandsWithHeader One p style lines Blank (header_at f) (put_at f)) (sym family_is)
+    (header_put_following One p q q style may lines Blank forms (λ xs last. last)
     (λ ws front back split last apart. leads lines front back q name ws kinds split keeps facts room.table last)
-    (line_below lines kinds facts q (subst IsSome (sym room.table) refl) outside) (λ front back split none. tt))
+    (line_below lines kinds facts q (subst IsSome (sym room.table) refl) outside) (λ front back split none. tt)
+    (λ absent due. ap₂ (λ o b. not (is_some o) && b) (ap beside family_is ∙ absent) due))
   where
     p : Address
     p = child q name
+
+    Blank : Type 0
+    Blank = writes_blank q p One style may (standing lines) ≡ true
+
+    beside : Address → Option (List Standing)
+    beside f = behind_family f (λ front. header_behind p One front style) (standing lines)
 
     family_is : family q p (standing lines) ≡ q
     family_is = cond-false _ _ _ (ap (λ o. is_some o && not (list_any (is_below q) (standing lines))) (name_is_no_element q name))
@@ -118,7 +126,8 @@ section_put_following q name style may lines kinds forms keeps facts room outsid
 -- by layout `Follow` the header line goes where it may stand
 pub element_put_following : (q : Address) (i : ℕ) (style : List ℕ) (may : Bool) (lines : List Line) (kinds : Kinds) → AreLines lines → KeepsRules (named lines)
     → IsDataOf (named lines) kinds → IsNextElement q i kinds → list_any (holds q) (standing lines) ≡ false
-    → StandsWithHeader Two (element q i) style lines (header_followed q Two (element q i) style may lines) (put_following q (element q i) Two style may (standing lines))
+    → StandsWithHeader Two (element q i) style lines (writes_blank q (element q i) Two style may (standing lines) ≡ true)
+    (header_followed q Two (element q i) style may lines) (put_following q (element q i) Two style may (standing lines))
 element_put_following q i style may lines kinds forms keeps facts next outside = by (list_any (is_below q) (standing lines)) refl
   where
     p : Address
@@ -143,20 +152,34 @@ element_put_following q i style may lines kinds forms keeps facts next outside =
         → own_address (named front) (header_expr Two p ws) ≡ Some p
     leads_there = next_leads q i lines kinds keeps facts next outside
 
-    put_by : (f : Address) → family q p (standing lines) ≡ f → StandsWithHeader Two p style lines (header_at f) (put_at f)
-        → StandsWithHeader Two p style lines (header_followed q Two p style may lines) (put_following q p Two style may (standing lines))
-    put_by f is = subst (λ x. StandsWithHeader Two p style lines (header_at x) (put_at x)) (sym is)
+    Blank : Type 0
+    Blank = writes_blank q p Two style may (standing lines) ≡ true
+
+    beside : Address → Option (List Standing)
+    beside f = behind_family f (λ front. header_behind p Two front style) (standing lines)
+
+    blank_by : (f : Address) → family q p (standing lines) ≡ f → beside f ≡ None → (may && wants_blank (standing lines)) ≡ true → Blank
+    blank_by f is absent due = ap₂ (λ o b. not (is_some o) && b) (ap beside is ∙ absent) due
+
+    put_by : (f : Address) → family q p (standing lines) ≡ f → StandsWithHeader Two p style lines Blank (header_at f) (put_at f)
+        → StandsWithHeader Two p style lines Blank (header_followed q Two p style may lines) (put_following q p Two style may (standing lines))
+    put_by f is = subst (λ x. StandsWithHeader Two p style lines Blank (header_at x) (put_at x)) (sym is)
 
     by : (b : Bool) → list_any (is_below q) (standing lines) ≡ b
-        → StandsWithHeader Two p style lines (header_followed q Two p style may lines) (put_following q p Two style may (standing lines))
+        → StandsWithHeader Two p style lines Blank (header_followed q Two p style may lines) (put_following q p Two style may (standing lines))
     by true there =
-        put_by q (cond-false _ _ _ (ap₂ (λ a b. a && not b) (index_is_element q i) there))
-        (header_put_following Two p q q style may lines forms (λ xs last. last) leads_there (λ not_root. there) (λ front back split none. apart_element q i front back none))
+        let is : family q p (standing lines) ≡ q = cond-false _ _ _ (ap₂ (λ a b. a && not b) (index_is_element q i) there) in
+        put_by q is
+        (header_put_following Two p q q style may lines Blank forms (λ xs last. last) leads_there (λ not_root. there)
+        (λ front back split none. apart_element q i front back none) (blank_by q is))
     by false none =
-        put_by r (cond-true _ _ _ (ap₂ (λ a b. a && not b) (index_is_element q i) none) ∙ ap right_above q_is ∙ above_child r n)
-        (header_put_following Two p q r style may lines forms (λ xs last. subst (AreLast xs) (sym q_is) (last_child xs r n last)) leads_there
+        let is : family q p (standing lines) ≡ r =
+        cond-true _ _ _ (ap₂ (λ a b. a && not b) (index_is_element q i) none) ∙ ap right_above q_is ∙ above_child r n in
+        put_by r is
+        (header_put_following Two p q r style may lines Blank forms (λ xs last. subst (AreLast xs) (sym q_is) (last_child xs r n last)) leads_there
         (line_below lines kinds facts r (subst IsSome (sym next.table.3) refl)
         (none_holds r (Name n ∷ []) (standing lines) (subst (λ x. list_any (holds x) (standing lines) ≡ false) q_is outside)))
         (λ front back split away. apart_element q i front back
         (any_back (is_below q) (standing front) (standing_from (named front) (length front) back)
-        (ap (list_any (is_below q)) (sym (standing_behind front back [])) ∙ ap (λ ls. list_any (is_below q) (standing ls)) (sym split) ∙ none))))
+        (ap (list_any (is_below q)) (sym (standing_behind front back [])) ∙ ap (λ ls. list_any (is_below q) (standing ls)) (sym split) ∙ none)))
+        (blank_by r is))

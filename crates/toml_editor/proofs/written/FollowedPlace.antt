@@ -63,7 +63,7 @@ ends_empty_is (t ∷ u ∷ ss) s = ends_empty_is (u ∷ ss) s
 
 -- ---- where it goes
 
-module _ (brackets : Brackets) (p q family : Address) (style : List ℕ) (may : Bool) (lines : List Line) where
+module _ (brackets : Brackets) (p q family : Address) (style : List ℕ) (may : Bool) (lines : List Line) (Blank : Type 0) where
   abbrev h : List Standing → Line
   h = header_line_behind p brackets style
 
@@ -71,7 +71,7 @@ module _ (brackets : Brackets) (p q family : Address) (style : List ℕ) (may : 
   new = λ front. header_behind p brackets front style
 
   abbrev WithHeader : List Line → List Standing → Type 0
-  WithHeader = StandsWithHeader brackets p style lines
+  WithHeader = StandsWithHeader brackets p style lines Blank
 
   -- the arrays of tables on which the family lies have so many tables as it says behind the last line at it or below it
   reached : (before : List Shown) (line : Shown) (between back : List Shown) → shown lines ≡ before ++ line ∷ (between ++ back) → is_below family line.1 ≡ true
@@ -87,7 +87,8 @@ module _ (brackets : Brackets) (p q family : Address) (style : List ℕ) (may : 
       → own_address (named front) (header_expr brackets p ws) ≡ Some p)
       (stands : ¬ (family ≡ []) → list_any (is_below family) (standing lines) ≡ true)
       (apart : (front back : List Line) → lines ≡ front ++ back → list_any (is_below family) (standing_from (named front) (length front) back) ≡ false
-      → IsApart brackets p front back) where
+      → IsApart brackets p front back)
+      (blank : behind_family family new (standing lines) ≡ None → (may && wants_blank (standing lines)) ≡ true → Blank) where
     spaced : (front back : List Standing) → standing lines ≡ front ++ back → AreLines lines → IsWs (header_ws p front)
     spaced front back split are =
         last_spaced (has_parts (names_in p)) front
@@ -111,7 +112,7 @@ module _ (brackets : Brackets) (p q family : Address) (style : List ℕ) (may : 
         (ap (list_any (is_below family)) (sym (map-append (λ (x : Shown). x.1) it.between it.back)) ∙ it.apart) in
         let alone = apart (lines_of front) (lines_of it.back) are.lines none in
         let last = carry (named (lines_of front)) (reached it.before it.line it.between it.back it.was it.below it.headless) in
-        put_before brackets p style lines (header_ws p ahead) (spaced ahead (stand_of it.back) split) front it.back was
+        put_before brackets p style lines Blank (header_ws p ahead) (spaced ahead (stand_of it.back) split) front it.back was
         (λ empty. some it.back empty it.more)
         (sym (has_same (lines_of it.back) (named (lines_of front)) (length (lines_of front))) ∙ ap stood.has_pair are.back_stands ∙ it.unkeyed)
         alone (leads (header_ws p ahead) (lines_of front) (lines_of it.back) are.lines last alone) _ _
@@ -125,8 +126,9 @@ module _ (brackets : Brackets) (p q family : Address) (style : List ℕ) (may : 
         some (x ∷ back) empty more = cc
 
     -- at the end
-    end : AreLast (named lines) family → WithHeader (header_at_end p brackets style may lines) (put_at_end p brackets style may (standing lines))
-    end last = by (may && wants_blank (standing lines)) refl
+    end : AreLast (named lines) family → behind_family family new (standing lines) ≡ None
+        → WithHeader (header_at_end p brackets style may lines) (put_at_end p brackets style may (standing lines))
+    end last absent = by (may && wants_blank (standing lines)) refl
       where
         ws : List ℕ
         ws = header_ws p (standing lines)
@@ -136,17 +138,17 @@ module _ (brackets : Brackets) (p q family : Address) (style : List ℕ) (may : 
 
         by : (b : Bool) → (may && wants_blank (standing lines)) ≡ b → WithHeader (header_at_end p brackets style may lines) (put_at_end p brackets style may (standing lines))
         by false enough =
-            put_as brackets p style lines _ _ _ _ (ap (line_at_end (header_line brackets p ws) style) (cond-false _ _ _ enough))
+            put_as brackets p style lines Blank _ _ _ _ (ap (line_at_end (header_line brackets p ws) style) (cond-false _ _ _ enough))
             (ap (put_at_text_end (new_header p brackets ws) style) (cond-false _ _ _ enough))
-            (end_put brackets p style lines ws all q forms (leads ws) (carry (named lines) last))
+            (end_put brackets p style lines Blank ws all q forms (leads ws) (carry (named lines) last))
         by true due =
-            put_as brackets p style lines _ _ _ _ (ap (line_at_end (header_line brackets p ws) style) (cond-true _ _ _ due))
+            put_as brackets p style lines Blank _ _ _ _ (ap (line_at_end (header_line brackets p ws) style) (cond-true _ _ _ due))
             (ap (put_at_text_end (new_header p brackets ws) style) (cond-true _ _ _ due))
             (elim (at_end (header_line brackets p ws) (new_header p brackets ws) style (shown lines) (shown_outlined lines (root ∷ []) 0)
-            (some_line brackets p style lines forms)) [
+            (some_line lines forms)) [
               | inl it ↦
-                  behind_blank brackets p style lines ws all it.front it.last it.was it.empty
-                  (leads ws lines [] (sym (append-nil lines)) (carry (named lines) last) (apart_at_end brackets p lines))
+                  behind_blank brackets p style lines Blank ws all it.front it.last it.was it.empty
+                  (leads ws lines [] (sym (append-nil lines)) (carry (named lines) last) (apart_at_end brackets p lines)) (blank absent due)
               | inr it ↦ absurd (true≢false (sym (empty it.front it.last it.was) ∙ it.full))
             ])
           where
@@ -171,11 +173,11 @@ module _ (brackets : Brackets) (p q family : Address) (style : List ℕ) (may : 
 
         by : (f : Address) → family ≡ f → Goal
         by [] is =
-            put_as brackets p style lines _ _ _ _ (ap (λ f. or_header_at_end p brackets style may lines (line_behind_family f h (shown lines))) is)
+            put_as brackets p style lines Blank _ _ _ _ (ap (λ f. or_header_at_end p brackets style may lines (line_behind_family f h (shown lines))) is)
             (ap (λ f. or_at_end p brackets style may (standing lines) (behind_family f new (standing lines))) is)
-            (end (subst (AreLast (named lines)) (sym is) (last_root (named lines))))
+            (end (subst (AreLast (named lines)) (sym is) (last_root (named lines))) (ap (λ f. behind_family f new (standing lines)) is))
         by (s ∷ r) is =
-            put_as brackets p style lines _ _ _ _
+            put_as brackets p style lines Blank _ _ _ _
             (ap (λ f. or_header_at_end p brackets style may lines (line_behind_family f h (shown lines))) is
             ∙ ap (λ f. or_header_at_end p brackets style may lines (line_behind_below f h [] (shown lines))) (sym is))
             (ap (λ f. or_at_end p brackets style may (standing lines) (behind_family f new (standing lines))) is
@@ -184,10 +186,13 @@ module _ (brackets : Brackets) (p q family : Address) (style : List ℕ) (may : 
               | inl none ↦
                   let some : ¬ (family ≡ []) = λ none'. (let x : ◌≡◌ {A = Address} [] (s ∷ r) = sym none' ∙ is in cc) in
                   let last = none.last (ap (list_any (is_below family)) (shown_stands lines (root ∷ []) 0) ∙ stands some) in
-                  put_as brackets p style lines _ _ _ _ (ap (or_header_at_end p brackets style may lines) none.put_none)
-                  (ap (or_at_end p brackets style may (standing lines)) (ap (behind_last family new []) (sym (shown_stands lines (root ∷ []) 0)) ∙ none.stand_none))
+                  let absent : behind_last family new [] (standing lines) ≡ None =
+                  ap (behind_last family new []) (sym (shown_stands lines (root ∷ []) 0)) ∙ none.stand_none in
+                  put_as brackets p style lines Blank _ _ _ _ (ap (or_header_at_end p brackets style may lines) none.put_none)
+                  (ap (or_at_end p brackets style may (standing lines)) absent)
                   (end (subst (λ ls. AreLast (named ls) family) (ap lines_of (sym last.is) ∙ shown_lines lines (root ∷ []) 0)
                   (reached last.before last.line last.between []
-                  (last.is ∙ ap (λ x. last.before ++ last.line ∷ x) (sym (append-nil last.between))) last.below last.headless)))
+                  (last.is ∙ ap (λ x. last.before ++ last.line ∷ x) (sym (append-nil last.between))) last.below last.headless))
+                  (ap (λ f. behind_family f new (standing lines)) is ∙ ap (λ f. behind_last f new [] (standing lines)) (sym is) ∙ absent))
               | inr it ↦ beside it
             ])

@@ -18,21 +18,17 @@ use Rattle.toml_editor.specs.EditedLines.{IsInNoValue, header_put_in}
 use Rattle.toml_editor.specs.HeaderLaws.{ElementNames, ElementStands, SectionNames, SectionStands}
 use Rattle.toml_editor.proofs.written.ElementFacts.{element_room}
 use Rattle.toml_editor.proofs.written.ElementNamed.{element_is_put}
-use Rattle.toml_editor.proofs.written.HeaderLaidOut.{element_laid_out, section_laid_out}
-use Rattle.toml_editor.proofs.written.HeaderThere.{StandsWithHeader}
+use Rattle.toml_editor.proofs.written.HeaderLaidOut.{StandsInLayout, element_laid_out, section_laid_out}
 use Rattle.toml_editor.proofs.written.SectionFacts.{section_room}
 use Rattle.toml_editor.proofs.written.SectionNamed.{section_is_put}
 
 module _ (profile : Profile) (q : Address) (manner : Manner) (lines : List Line) (kinds : Kinds) (forms : AreLines lines) (keeps : KeepsRules (named lines))
     (facts : IsDataOf (named lines) kinds) (outside : IsInNoValue lines q) where
   section_placed : (name : List ℕ) → IsFault profile (new_section (child q name)) kinds None
-      → StandsWithHeader One (child q name) manner.newline lines (header_put_in manner.layout q One (child q name) manner lines)
-      (header_laid_out manner.layout q (child q name) One manner manner.may_blank (standing lines))
+      → StandsInLayout manner.layout q One (child q name) manner lines
   section_placed name none = section_laid_out q name manner lines kinds forms keeps facts (section_room profile q name kinds none) outside
 
-  element_placed : (i : ℕ) → IsFault profile (new_element (element q i)) kinds None
-      → StandsWithHeader Two (element q i) manner.newline lines (header_put_in manner.layout q Two (element q i) manner lines)
-      (header_laid_out manner.layout q (element q i) Two manner manner.may_blank (standing lines))
+  element_placed : (i : ℕ) → IsFault profile (new_element (element q i)) kinds None → StandsInLayout manner.layout q Two (element q i) manner lines
   element_placed i none =
       element_laid_out q i manner lines kinds forms keeps facts (element_room profile q i kinds (lines_are_closed lines kinds keeps facts) none) outside
 

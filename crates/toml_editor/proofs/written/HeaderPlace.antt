@@ -44,7 +44,7 @@ pub below_is : (e : Address) (base : Option ℕ) (own : Option Address) → head
 below_is e (Some n) own is = absurd (true≢false (sym is))
 below_is e None own is = lies_is e own is
 
-module _ (brackets : Brackets) (p q : Address) (style : List ℕ) (lines : List Line) where
+module _ (brackets : Brackets) (p q : Address) (style : List ℕ) (lines : List Line) (Blank : Type 0) where
   abbrev h : List ℕ → Line
   h = header_line brackets p []
 
@@ -78,7 +78,7 @@ module _ (brackets : Brackets) (p q : Address) (style : List ℕ) (lines : List 
       → has_below e (standing_from (named front) (length front) back) ≡ false → IsApart brackets p front back) where
     -- before the next header line behind those of the element
     next_put : (e : Address) → innermost q ≡ Some e → (it : NextHeader (h style) (new style) e (shown lines))
-        → StandsWithHeader brackets p style lines (or_line_at_end h style lines (line_before_next e (h style) (shown lines)))
+        → StandsWithHeader brackets p style lines Blank (or_line_at_end h style lines (line_before_next e (h style) (shown lines)))
         (or_last new style (standing lines) (before_next e (new style) (standing lines)))
     next_put e inner it =
         let parted = it.parted in
@@ -89,28 +89,28 @@ module _ (brackets : Brackets) (p q : Address) (style : List ℕ) (lines : List 
         let unkeyed : has_pair back ≡ false =
         header_unkeyed (named front) parted.head.0 (lines_of parted.rest) (ap (λ (s : Standing). is_header s.base s.address) here ∙ parted.heads) in
         let alone = apart e inner front back unkeyed (ap (has_below e) are.back_stands ∙ it.behind) in
-        put_before brackets p style lines [] (λ are'. tt) parted.front (parted.head ∷ parted.rest) parted.was (λ none. cc) unkeyed alone
+        put_before brackets p style lines Blank [] (λ are'. tt) parted.front (parted.head ∷ parted.rest) parted.was (λ none. cc) unkeyed alone
         (leads front back are.lines (reached_behind e inner parted.front (parted.head ∷ parted.rest) parted.was it.last) alone) _ _
         (ap (or_line_at_end h style lines) parted.lines)
         (ap (or_last new style (standing lines)) (ap (before_next e (new style)) (sym (shown_stands lines (root ∷ []) 0)) ∙ parted.stands))
 
-    pub header_put_plainly : StandsWithHeader brackets p style lines (header_lines q brackets p style lines) (put_plainly (innermost q) new style (standing lines))
+    pub header_put_plainly : StandsWithHeader brackets p style lines Blank (header_lines q brackets p style lines) (put_plainly (innermost q) new style (standing lines))
     header_put_plainly = by (innermost q) refl
       where
-        end : IsReached lines → StandsWithHeader brackets p style lines (line_at_end h style lines) (put_at_text_end new style (standing lines))
-        end = end_put brackets p style lines [] (λ are. tt) q forms leads
+        end : IsReached lines → StandsWithHeader brackets p style lines Blank (line_at_end h style lines) (put_at_text_end new style (standing lines))
+        end = end_put brackets p style lines Blank [] (λ are. tt) q forms leads
 
         by : (o : Option Address) → innermost q ≡ o
-            → StandsWithHeader brackets p style lines (header_lines q brackets p style lines) (put_plainly (innermost q) new style (standing lines))
+            → StandsWithHeader brackets p style lines Blank (header_lines q brackets p style lines) (put_plainly (innermost q) new style (standing lines))
         by None inner =
-            put_as brackets p style lines _ _ _ _ (ap (λ o. line_put_plainly o h style lines) inner) (ap (λ o. put_plainly o new style (standing lines)) inner)
+            put_as brackets p style lines Blank _ _ _ _ (ap (λ o. line_put_plainly o h style lines) inner) (ap (λ o. put_plainly o new style (standing lines)) inner)
             (end (λ r rest i is. let (e, some', more, split) = index_in r rest i in
             let x : ◌≡◌ {A = Option Address} None (Some e) = sym inner ∙ ap innermost is ∙ some' in cc))
         by (Some e) inner =
-            put_as brackets p style lines _ _ _ _ (ap (λ o. line_put_plainly o h style lines) inner) (ap (λ o. put_plainly o new style (standing lines)) inner)
+            put_as brackets p style lines Blank _ _ _ _ (ap (λ o. line_put_plainly o h style lines) inner) (ap (λ o. put_plainly o new style (standing lines)) inner)
             (elim (next_header (h style) (new style) e (shown lines)) [
               | inl none ↦
-                  put_as brackets p style lines _ _ _ _ (ap (or_line_at_end h style lines) none.put)
+                  put_as brackets p style lines Blank _ _ _ _ (ap (or_line_at_end h style lines) none.put)
                   (ap (or_last new style (standing lines)) (ap (before_next e (new style)) (sym (shown_stands lines (root ∷ []) 0)) ∙ none.stand))
                   (end (subst IsReached (shown_lines lines (root ∷ []) 0)
                   (reached_behind e inner (shown lines) [] (sym (append-nil (shown lines)))

@@ -1,5 +1,5 @@
 -- A new header line before one of the lines, or at their end: it may stand there, and what then stands on the lines.
-use Rattle.std.proofs.Common.{◌≡◌, inl, inr, ℕ, ◌==◌, true, false, ◌&&◌, Option, Some, None, List, [], ◌∷◌, ◌++◌, length, refl, sym, ap, ap₂, ◌∙◌, subst, true≢false, append-nil, append_assoc, arith}
+use Rattle.std.proofs.Common.{◌≡◌, inl, inr, ℕ, ◌==◌, true, false, ◌&&◌, Option, Some, None, List, [], ◌∷◌, ◌++◌, length, refl, sym, ap, ap₂, ◌∙◌, subst, true≢false, append-nil, append_assoc, arith, length-append, ◌⊎◌}
 use Rattle.std.specs.List.{list_any}
 use Rattle.std.specs.Prelude.{is_some, not, option_map}
 use Rattle.std.proofs.lemmas.Bool.{and_parts, cond-true}
@@ -28,7 +28,7 @@ use Rattle.toml_working.specs.HeadingFollowed.{blank_at_end}
 use Rattle.toml_editor.proofs.written.BelowPlace.{standing_behind}
 use Rattle.toml_editor.proofs.written.Counted.{AreLast, counts_stay}
 use Rattle.toml_editor.proofs.written.DocumentSections.{named_next}
-use Rattle.toml_editor.proofs.written.HeaderPut.{IsApart, IsHeaderPut, ended}
+use Rattle.toml_editor.proofs.written.HeaderPut.{IsApart, IsHeaderPut, IsOneMore, ended}
 use Rattle.toml_editor.proofs.written.HeaderSplit.{BeforeEmpty, BehindLast, at_end, lines_of, stand_of}
 use Rattle.toml_editor.proofs.written.HeaderStood.{parts, put_stands, shown_lines, shown_outlined, shown_stands}
 use Rattle.toml_editor.proofs.written.InsertPlace.{IsHeadless}
@@ -128,17 +128,19 @@ pub lines_there : (ls : List Line) → AreLines ls → ¬ (ls ≡ [])
 lines_there [] are is = are
 lines_there (l ∷ ls) are is = cc
 
-module _ (brackets : Brackets) (p : Address) (style : List ℕ) (lines : List Line) where
-  -- the lines with it, and what stands on them
+pub some_line : (lines : List Line) → AreLines lines → ¬ (shown lines ≡ [])
+some_line lines forms none = lines_there lines forms (sym (shown_lines lines (root ∷ []) 0) ∙ ap lines_of none)
+
+-- `Blank` tells when a blank line is put in before it.
+module _ (brackets : Brackets) (p : Address) (style : List ℕ) (lines : List Line) (Blank : Type 0) where
+  -- The lines with it, and what stands on them. They are one more, where no blank line is put in.
   pub record StandsWithHeader (put : List Line) (stand : List Standing) : Type 0 where
     pub header : IsHeaderPut brackets p style lines put
     pub stands : standing put ≡ stand
+    pub more : IsOneMore lines put ⊎ Blank
 
   pub put_as : (put put' : List Line) (stand stand' : List Standing) → put' ≡ put → stand' ≡ stand → StandsWithHeader put stand → StandsWithHeader put' stand'
   put_as put put' stand stand' e f it = subst (λ x. StandsWithHeader x stand') (sym e) (subst (StandsWithHeader put) (sym f) it)
-
-  pub some_line : AreLines lines → ¬ (shown lines ≡ [])
-  some_line forms none = lines_there lines forms (sym (shown_lines lines (root ∷ []) 0) ∙ ap lines_of none)
 
   module _ (ws : List ℕ) (spaced : AreLines lines → IsWs ws) where
     abbrev h : List ℕ → Line
@@ -176,6 +178,10 @@ module _ (brackets : Brackets) (p : Address) (style : List ℕ) (lines : List Li
           stands =
               ap standing is ∙ put_stands brackets p (lines_of front) (lines_of back) ws style leads apart unkeyed
               ∙ ap₂ (λ a b. a ++ new style ∷ b) are.front_stands are.back_stands ∙ sym stands;
+          more =
+              let old = ap length are.lines ∙ length-append (lines_of front) (lines_of back) in
+              let all = ap length is ∙ length-append (lines_of front) (h style ∷ lines_of back) in
+              inl (omega (arith, old, all));
         }
 
     -- before a last line without bytes
@@ -221,12 +227,16 @@ module _ (brackets : Brackets) (p : Address) (style : List ℕ) (lines : List Li
               ∙ append_assoc (stand_of it.front) (end_in style it.last.1 ∷ []) (new [] ∷ [])
               ∙ sym (ap (put_at_text_end new style) (sym (shown_stands lines (root ∷ []) 0)) ∙ it.stands
               ∙ ap (λ t. stand_of it.front ++ put_after new style it.last.1 t) opened);
+          more =
+              let old = ap length are.lines ∙ length-append before (last ∷ []) in
+              let all = ap length is ∙ length-append before (ended style last ∷ h [] ∷ []) in
+              inl (omega (arith, old, all));
         }
 
     -- behind the last line, which has no bytes and becomes a blank one
-    pub behind_blank : (front : List Shown) (last : Shown) → shown lines ≡ front ++ last ∷ [] → has_no_bytes (line_outline last.0) ≡ true → Leads lines
+    pub behind_blank : (front : List Shown) (last : Shown) → shown lines ≡ front ++ last ∷ [] → has_no_bytes (line_outline last.0) ≡ true → Leads lines → Blank
         → StandsWithHeader (line_at_end h style (blank_at_end style lines)) (put_at_text_end new style (put_at_text_end blank_line style (standing lines)))
-    behind_blank front (last, s) was empty leads =
+    behind_blank front (last, s) was empty leads blank =
         let before = lines_of front in
         let are = parts front ((last, s) ∷ []) lines [] was in
         let closed = before ++ ended style last ∷ [] in
@@ -262,13 +272,14 @@ module _ (brackets : Brackets) (p : Address) (style : List ℕ) (lines : List Li
               ∙ ap (λ s. s ++ new style ∷ blank_line [] ∷ [])
               (standing_behind before (ended style last ∷ []) [] ∙ ap₂ (λ a b. a ++ b ∷ []) are.front_stands (empty_stands (named before) last (fresh style) empty))
               ∙ append_assoc (stand_of front) (blank_line style ∷ []) (new style ∷ blank_line [] ∷ []) ∙ sym put;
+          more = inr blank;
         }
 
     -- at the end, where it leads to the address, if each index in `q` is that of the last table of its array
     pub end_put : (q : Address) → AreLines lines
         → ((front back : List Line) → lines ≡ front ++ back → AreLast (named front) q → IsApart brackets p front back → Leads front) → AreLast (named lines) q
         → StandsWithHeader (line_at_end h style lines) (put_at_text_end new style (standing lines))
-    end_put q forms leads last = elim (at_end h new style (shown lines) (shown_outlined lines (root ∷ []) 0) (some_line forms)) [
+    end_put q forms leads last = elim (at_end h new style (shown lines) (shown_outlined lines (root ∷ []) 0) (some_line lines forms)) [
       | inl it ↦
           let front = lines_of it.front in
           let are = parts it.front (it.last ∷ []) lines [] it.was in

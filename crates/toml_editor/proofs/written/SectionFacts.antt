@@ -57,10 +57,10 @@ pub record IsNextElement (q : Address) (i : ℕ) (kinds : Kinds) : Type 0 where
   pub short : length (element q i) ≤ max_steps
 
 -- by layout `Plain` the header line goes where it may stand
-pub section_put_plainly : (q : Address) (name style : List ℕ) (lines : List Line) (kinds : Kinds) → AreLines lines → KeepsRules (named lines) → IsDataOf (named lines) kinds
+pub section_put_plainly : (q : Address) (name style : List ℕ) (lines : List Line) (Blank : Type 0) (kinds : Kinds) → AreLines lines → KeepsRules (named lines) → IsDataOf (named lines) kinds
     → IsRoom q name kinds → IsInNoValue lines q
-    → StandsWithHeader One (child q name) style lines (header_lines q One (child q name) style lines)
+    → StandsWithHeader One (child q name) style lines Blank (header_lines q One (child q name) style lines)
     (put_plainly (innermost q) (new_header (child q name) One []) style (standing lines))
-section_put_plainly q name style lines kinds forms keeps facts room outside =
-    header_put_plainly One (child q name) q style lines forms (λ front back split reached apart. leads lines front back q name [] kinds split keeps facts room.table reached)
+section_put_plainly q name style lines Blank kinds forms keeps facts room outside =
+    header_put_plainly One (child q name) q style lines Blank forms (λ front back split reached apart. leads lines front back q name [] kinds split keeps facts room.table reached)
     (element_headed lines q kinds keeps facts room.table outside) (λ e inner front back unkeyed unheaded. tt)

@@ -22,7 +22,7 @@ use Rattle.toml_names.proofs.Proved.{lines_are_closed, lines_have_data, places_a
 use Rattle.toml_units.proofs.Proved.{units_are_named}
 use Rattle.toml_working.specs.Removing.{remove_lines}
 use Rattle.toml_editor.proofs.written.HeaderFormed.{header_forms}
-use Rattle.toml_editor.proofs.written.HeaderThere.{lines_there}
+use Rattle.toml_editor.proofs.written.HeaderPut.{IsOneMore}
 use Rattle.toml_editor.proofs.written.RemoveKept.{remove_forms}
 use Rattle.toml_editor.proofs.written.RemovedEither.{left_clear, remove_good, remove_way}
 use Rattle.toml_editor.proofs.written.Pairwise.{has_of_any, from_has}
@@ -43,7 +43,7 @@ use Rattle.toml_layout.specs.declared.tree.Brackets.TheVariants.{One, Two}
 use Rattle.toml_working.specs.Written.{HasLine, HasSection, HasValue}
 use Rattle.toml_editor.specs.EditedLines.{IsInNoValue, IsWritten, header_put_in}
 use Rattle.toml_editor.proofs.written.ElementFacts.{element_room}
-use Rattle.toml_editor.proofs.written.HeaderLaidOut.{element_laid_out, section_laid_out}
+use Rattle.toml_editor.proofs.written.HeaderLaidOut.{StandsInLayout, element_laid_out, section_laid_out}
 use Rattle.toml_editor.proofs.written.SectionFacts.{section_room}
 use Rattle.toml_editor.proofs.written.SetKept.{set_short}
 use Rattle.toml_editor.proofs.written.SetFormed.{set_forms}
@@ -57,9 +57,7 @@ use Rattle.toml_layout.specs.Holders.{parent_of}
 use Rattle.toml_layout.specs.declared.tree.Brackets.{Brackets}
 use Rattle.toml_working.specs.HeaderStanding.{blank_laid_out, blank_standing, header_laid_out}
 use Rattle.toml_working.specs.Standing.{standing}
-use Rattle.toml_editor.proofs.written.HeaderLength.{one_more}
 use Rattle.toml_editor.proofs.written.TablesStay.{parent_is}
-use Rattle.toml_editor.proofs.written.UnitsHeaded.{IsOneMore}
 use Rattle.toml_editor.proofs.written.WayWhole.{HasWay, HasWayIf, partners, same_newlines, same_seen, way_weaker}
 
 -- whether the edit puts a blank line in before a header line
@@ -97,13 +95,16 @@ always : (c : Change) (manner : Manner) (ts : List (List ℕ)) (lines edited : L
 always c manner ts lines edited none way = way_weaker (puts_blank c manner lines ≡ false) (c ∷ []) (ts ∷ []) lines edited (λ is. tt) way
 
 -- a header line that is put in without one is one line more
-header_is_one_more : (brackets : Brackets) (q p : Address) (last : Step) (manner : Manner) (lines put : List Line) → p ≡ q ++ last ∷ [] → AreLines lines → IsInNoValue lines q
-    → standing put ≡ header_laid_out manner.layout q p brackets manner manner.may_blank (standing lines)
-    → blank_standing (parent_of p) p brackets manner manner.may_blank (standing lines) ≡ false → IsOneMore lines put
-header_is_one_more brackets q p last manner lines put at forms outside is none =
-    one_more manner.layout q p brackets manner manner.may_blank lines put (lines_there lines forms) is
-    (sym (ap (λ b. not b && blank_laid_out manner.layout q p brackets manner manner.may_blank (standing lines)) outside)
-    ∙ ap (λ r. blank_standing r p brackets manner manner.may_blank (standing lines)) (sym (parent_is q last) ∙ ap parent_of (sym at)) ∙ none)
+header_is_one_more : (brackets : Brackets) (q p : Address) (last : Step) (manner : Manner) (lines : List Line) → p ≡ q ++ last ∷ [] → IsInNoValue lines q
+    → StandsInLayout manner.layout q brackets p manner lines → blank_standing (parent_of p) p brackets manner manner.may_blank (standing lines) ≡ false
+    → IsOneMore lines (header_put_in manner.layout q brackets p manner lines)
+header_is_one_more brackets q p last manner lines at outside there none = elim there.more [
+  | inl one ↦ one
+  | inr blank ↦
+      absurd (true≢false
+      (sym (ap₂ (λ a b. not a && b) outside blank)
+      ∙ ap (λ r. blank_standing r p brackets manner manner.may_blank (standing lines)) (sym (parent_is q last) ∙ ap parent_of (sym at)) ∙ none))
+]
 
 -- what is to be shown of an edit
 abbrev HaveWays : Change → Type 0
@@ -242,7 +243,7 @@ section_goes p profile manner before after old now newline good none is_after (d
       way =
           subst (λ x. HasWayIf (puts_blank (new_section x) manner lines ≡ false) (new_section x ∷ []) ([] ∷ []) lines edited') (sym at)
           (way_weaker (puts_blank (new_section (child q name)) manner lines ≡ false) (new_section (child q name) ∷ []) ([] ∷ []) lines edited'
-          (header_is_one_more One q (child q name) (Name name) manner lines edited' refl forms outside' there.stands) (section_way q name manner.newline lines edited' put forms));
+          (header_is_one_more One q (child q name) (Name name) manner lines refl outside' there) (section_way q name manner.newline lines edited' put forms));
     }
 
 element_goes : (p : Address) → HaveWays (new_element p)
@@ -266,7 +267,7 @@ element_goes p profile manner before after old now newline good none is_after (d
       way =
           subst (λ x. HasWayIf (puts_blank (new_element x) manner lines ≡ false) (new_element x ∷ []) ([] ∷ []) lines edited') (sym at)
           (way_weaker (puts_blank (new_element (element q i)) manner lines ≡ false) (new_element (element q i) ∷ []) ([] ∷ []) lines edited'
-          (header_is_one_more Two q (element q i) (Index i) manner lines edited' refl forms outside' there.stands) (element_way q i manner.newline lines edited' put forms));
+          (header_is_one_more Two q (element q i) (Index i) manner lines refl outside' there) (element_way q i manner.newline lines edited' put forms));
     }
 
 pub plain_goes : (c : Change) → HaveWays c

@@ -23,8 +23,8 @@ use Rattle.toml_checker.specs.Comments.{is_comment, texts}
 use Rattle.toml_checker.specs.Owed.{IsOwed, Owes, result}
 use Rattle.toml_checker.specs.Plain.{Site, home_stands, is_named, stands}
 use Rattle.toml_editor.specs.UnitBlocks.{line_of_nothing}
-use Rattle.toml_editor.proofs.written.HeaderPut.{IsHeaderPut}
-use Rattle.toml_editor.proofs.written.UnitsHeaded.{IsOneMore, IsPutAlone, IsPutParted, header_block, header_units}
+use Rattle.toml_editor.proofs.written.HeaderPut.{IsHeaderPut, IsOneMore}
+use Rattle.toml_editor.proofs.written.UnitsHeaded.{IsPutAlone, IsPutParted, header_block, header_units}
 use Rattle.toml_editor.proofs.written.UnitsPut.{formed_well}
 use Rattle.toml_editor.proofs.written.Way.{is_here}
 use Rattle.toml_editor.proofs.written.WayBlock.{lines_append, new_fits}
