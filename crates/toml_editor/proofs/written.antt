@@ -15,11 +15,9 @@ pub mod CountedArrays
 pub mod Deep
 pub mod DocumentSections
 pub mod ElementCounted
-pub mod ElementFacts
 pub mod ElementHeaded
 pub mod ElementKept
 pub mod ElementNamed
-pub mod ElementPlace
 pub mod Elsewhere
 pub mod EmptiedLine
 pub mod EmptyAlone
@@ -39,6 +37,7 @@ pub mod FollowedPlace
 pub mod FollowedSplit
 pub mod Formed
 pub mod HeaderCounted
+pub mod HeaderFacts
 pub mod HeaderFollow
 pub mod HeaderFormed
 pub mod HeaderKept
@@ -75,6 +74,7 @@ pub mod OuterPairs
 pub mod PairsClear
 pub mod Pairwise
 pub mod Plain
+pub mod PlainFacts
 pub mod Profiled
 pub mod PutStands
 pub mod RemoveKept
@@ -87,12 +87,11 @@ pub mod RenameKept
 pub mod RenameNamed
 pub mod RenameStanding
 pub mod RenameTexts
+pub mod Roles
 pub mod RootPairs
 pub mod ScalarsLone
-pub mod SectionFacts
 pub mod SectionKept
 pub mod SectionNamed
-pub mod SectionRoles
 pub mod SetFormed
 pub mod SetKept
 pub mod SetNamed

@@ -36,7 +36,7 @@ use Rattle.toml_editor.proofs.written.HeaderPlace.{below_is}
 use Rattle.toml_editor.proofs.written.HeaderPut.{IsApart}
 use Rattle.toml_editor.proofs.written.OneSection.{among_of}
 use Rattle.toml_editor.proofs.written.Pairwise.{Has, any_of_has, has_append_left, has_append_right}
-use Rattle.toml_editor.proofs.written.SectionFacts.{IsNextElement}
+use Rattle.toml_editor.proofs.written.HeaderFacts.{IsNextElement}
 use Rattle.toml_editor.proofs.written.SectionNamed.{names_of_element}
 use Rattle.toml_editor.proofs.written.StandingOrder.{begins_is}
 use Rattle.toml_editor.proofs.written.TablesStay.{under_begins}

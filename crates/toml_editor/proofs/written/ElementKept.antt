@@ -23,7 +23,7 @@ use Rattle.toml_editor.proofs.written.HeaderKept.{AreTables, BothGo, IsHeaderBlo
 use Rattle.toml_editor.proofs.written.HeaderLeads.{IsKindAt, fronts_are_tables}
 use Rattle.toml_editor.proofs.written.HeaderPut.{IsHeaderPut}
 use Rattle.toml_editor.proofs.written.Pairwise.{Has}
-use Rattle.toml_editor.proofs.written.SectionFacts.{IsNextElement}
+use Rattle.toml_editor.proofs.written.HeaderFacts.{IsNextElement}
 use Rattle.toml_editor.proofs.written.SectionNamed.{IsNamedBetween, follows, named_between}
 
 -- the array, or the element

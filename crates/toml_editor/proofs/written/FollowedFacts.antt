@@ -30,7 +30,7 @@ use Rattle.toml_editor.proofs.written.HeaderLeads.{leads}
 use Rattle.toml_editor.proofs.written.HeaderPut.{IsApart}
 use Rattle.toml_editor.proofs.written.HeaderSplit.{any_back}
 use Rattle.toml_editor.proofs.written.HeaderThere.{StandsWithHeader}
-use Rattle.toml_editor.proofs.written.SectionFacts.{IsNextElement, IsRoom}
+use Rattle.toml_editor.proofs.written.HeaderFacts.{IsNextElement, IsRoom}
 use Rattle.toml_editor.proofs.written.TablesStay.{under_begins}
 
 -- ---- addresses

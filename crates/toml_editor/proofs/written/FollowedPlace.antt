@@ -27,7 +27,7 @@ use Rattle.toml_editor.proofs.written.HeaderPlace.{lies_is}
 use Rattle.toml_editor.proofs.written.HeaderPut.{IsApart}
 use Rattle.toml_editor.proofs.written.HeaderSplit.{IsHeadlessShown, any_back, at_end, lines_of, stand_of}
 use Rattle.toml_editor.proofs.written.HeaderStood.{counted_behind, parts, shown_lines, shown_outlined, shown_stands}
-use Rattle.toml_editor.proofs.written.HeaderThere.{StandsWithHeader, apart_at_end, behind_blank, end_put, put_as, put_before, some_line}
+use Rattle.toml_editor.proofs.written.HeaderThere.{StandsWithHeader, apart_at_end, stands_behind_blank, stands_at_end, stands_as, stands_before, some_line}
 use Rattle.toml_editor.proofs.written.InsertStands.{has_same}
 use Rattle.toml_editor.proofs.written.UnitsRenamed.{each_form}
 
@@ -112,7 +112,7 @@ module _ (brackets : Brackets) (p q family : Address) (style : List ℕ) (may : 
         (ap (list_any (is_below family)) (sym (map-append (λ (x : Shown). x.1) it.between it.back)) ∙ it.apart) in
         let alone = apart (lines_of front) (lines_of it.back) are.lines none in
         let last = carry (named (lines_of front)) (reached it.before it.line it.between it.back it.was it.below it.headless) in
-        put_before brackets p style lines Blank (header_ws p ahead) (spaced ahead (stand_of it.back) split) front it.back was
+        stands_before brackets p style lines Blank (header_ws p ahead) (spaced ahead (stand_of it.back) split) front it.back was
         (λ empty. some it.back empty it.more)
         (sym (has_same (lines_of it.back) (named (lines_of front)) (length (lines_of front))) ∙ ap stood.has_pair are.back_stands ∙ it.unkeyed)
         alone (leads (header_ws p ahead) (lines_of front) (lines_of it.back) are.lines last alone) _ _
@@ -138,16 +138,16 @@ module _ (brackets : Brackets) (p q family : Address) (style : List ℕ) (may : 
 
         by : (b : Bool) → (may && wants_blank (standing lines)) ≡ b → WithHeader (header_at_end p brackets style may lines) (put_at_end p brackets style may (standing lines))
         by false enough =
-            put_as brackets p style lines Blank _ _ _ _ (ap (line_at_end (header_line brackets p ws) style) (cond-false _ _ _ enough))
+            stands_as brackets p style lines Blank _ _ _ _ (ap (line_at_end (header_line brackets p ws) style) (cond-false _ _ _ enough))
             (ap (put_at_text_end (new_header p brackets ws) style) (cond-false _ _ _ enough))
-            (end_put brackets p style lines Blank ws all q forms (leads ws) (carry (named lines) last))
+            (stands_at_end brackets p style lines Blank ws all q forms (leads ws) (carry (named lines) last))
         by true due =
-            put_as brackets p style lines Blank _ _ _ _ (ap (line_at_end (header_line brackets p ws) style) (cond-true _ _ _ due))
+            stands_as brackets p style lines Blank _ _ _ _ (ap (line_at_end (header_line brackets p ws) style) (cond-true _ _ _ due))
             (ap (put_at_text_end (new_header p brackets ws) style) (cond-true _ _ _ due))
             (elim (at_end (header_line brackets p ws) (new_header p brackets ws) style (shown lines) (shown_outlined lines (root ∷ []) 0)
             (some_line lines forms)) [
               | inl it ↦
-                  behind_blank brackets p style lines Blank ws all it.front it.last it.was it.empty
+                  stands_behind_blank brackets p style lines Blank ws all it.front it.last it.was it.empty
                   (leads ws lines [] (sym (append-nil lines)) (carry (named lines) last) (apart_at_end brackets p lines)) (blank absent due)
               | inr it ↦ absurd (true≢false (sym (empty it.front it.last it.was) ∙ it.full))
             ])
@@ -173,11 +173,11 @@ module _ (brackets : Brackets) (p q family : Address) (style : List ℕ) (may : 
 
         by : (f : Address) → family ≡ f → Goal
         by [] is =
-            put_as brackets p style lines Blank _ _ _ _ (ap (λ f. or_header_at_end p brackets style may lines (line_behind_family f h (shown lines))) is)
+            stands_as brackets p style lines Blank _ _ _ _ (ap (λ f. or_header_at_end p brackets style may lines (line_behind_family f h (shown lines))) is)
             (ap (λ f. or_at_end p brackets style may (standing lines) (behind_family f new (standing lines))) is)
             (end (subst (AreLast (named lines)) (sym is) (last_root (named lines))) (ap (λ f. behind_family f new (standing lines)) is))
         by (s ∷ r) is =
-            put_as brackets p style lines Blank _ _ _ _
+            stands_as brackets p style lines Blank _ _ _ _
             (ap (λ f. or_header_at_end p brackets style may lines (line_behind_family f h (shown lines))) is
             ∙ ap (λ f. or_header_at_end p brackets style may lines (line_behind_below f h [] (shown lines))) (sym is))
             (ap (λ f. or_at_end p brackets style may (standing lines) (behind_family f new (standing lines))) is
@@ -188,7 +188,7 @@ module _ (brackets : Brackets) (p q family : Address) (style : List ℕ) (may : 
                   let last = none.last (ap (list_any (is_below family)) (shown_stands lines (root ∷ []) 0) ∙ stands some) in
                   let absent : behind_last family new [] (standing lines) ≡ None =
                   ap (behind_last family new []) (sym (shown_stands lines (root ∷ []) 0)) ∙ none.stand_none in
-                  put_as brackets p style lines Blank _ _ _ _ (ap (or_header_at_end p brackets style may lines) none.put_none)
+                  stands_as brackets p style lines Blank _ _ _ _ (ap (or_header_at_end p brackets style may lines) none.put_none)
                   (ap (or_at_end p brackets style may (standing lines)) absent)
                   (end (subst (λ ls. AreLast (named ls) family) (ap lines_of (sym last.is) ∙ shown_lines lines (root ∷ []) 0)
                   (reached last.before last.line last.between []

@@ -11,15 +11,12 @@ use Rattle.toml_names.proofs.Proved.{lines_are_closed}
 use Rattle.toml_edits.specs.Edits.{new_element, new_section}
 use Rattle.toml_edits.specs.Faults.{IsFault}
 use Rattle.toml_layout.specs.declared.tree.Brackets.TheVariants.{One, Two}
-use Rattle.toml_working.specs.HeaderStanding.{header_laid_out}
 use Rattle.toml_working.specs.Manners.{Manner}
-use Rattle.toml_working.specs.Standing.{standing}
-use Rattle.toml_editor.specs.EditedLines.{IsInNoValue, header_put_in}
+use Rattle.toml_editor.specs.EditedLines.{IsInNoValue}
 use Rattle.toml_editor.specs.HeaderLaws.{ElementNames, ElementStands, SectionNames, SectionStands}
-use Rattle.toml_editor.proofs.written.ElementFacts.{element_room}
+use Rattle.toml_editor.proofs.written.HeaderFacts.{element_room, section_room}
 use Rattle.toml_editor.proofs.written.ElementNamed.{element_is_put}
 use Rattle.toml_editor.proofs.written.HeaderLaidOut.{StandsInLayout, element_laid_out, section_laid_out}
-use Rattle.toml_editor.proofs.written.SectionFacts.{section_room}
 use Rattle.toml_editor.proofs.written.SectionNamed.{section_is_put}
 
 module _ (profile : Profile) (q : Address) (manner : Manner) (lines : List Line) (kinds : Kinds) (forms : AreLines lines) (keeps : KeepsRules (named lines))

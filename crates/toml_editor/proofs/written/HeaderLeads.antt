@@ -23,6 +23,7 @@ use Rattle.toml_editor.proofs.written.Counted.{AreLast, counts_grow, last_child,
 use Rattle.toml_editor.proofs.written.CountedArrays.{IsNamedLast, count_unnamed, counted_arrays, element_unnamed, root_unnamed}
 use Rattle.toml_editor.proofs.written.InsertNamed.{spelled_again}
 use Rattle.toml_editor.proofs.written.Pairwise.{Has, any_of_has, has_append_left, has_of_any, has_parts, has_weaker}
+use Rattle.toml_editor.proofs.written.TablesStay.{closed_down}
 
 -- ---- a name is put in a table
 
@@ -99,13 +100,7 @@ module _ (lines : List Line) (kinds : Kinds) (keeps : KeepsRules (named lines)) 
       by None is = absurd (some is)
       by (Some k) is = (data_is u a_table).1 (any_of_has (IsKindAt u a_table) (named lines) (line_names lines keeps u n (named_so k is)))
 
-  -- where nothing stands, nothing stands at any depth below
-  none_below : (more at : Address) → kinds at ≡ None → kinds (at ++ more) ≡ None
-  none_below [] at none = ap kinds (append-nil at) ∙ none
-  none_below (s ∷ more) at none =
-      ap kinds (sym (append_assoc at (s ∷ []) more)) ∙ none_below more (at ++ s ∷ []) (lines_are_closed lines kinds keeps data_is at s none)
-
-  -- so it is no array of tables
+  -- a table is no array of tables
   table_uncounted : (front back : List Line) (r : Address) → lines ≡ front ++ back → kinds r ≡ Some a_table → count_tables (named front) r ≡ 0
   table_uncounted front back r parts table = by (count_tables (named front) r) refl
     where
@@ -127,7 +122,7 @@ module _ (lines : List Line) (kinds : Kinds) (keeps : KeepsRules (named lines)) 
     ]
       where
         below : (more : Address) → kinds (child r n) ≡ None → kinds (r ++ Name n ∷ more) ≡ None
-        below more none = ap kinds (sym (append_assoc r (Name n ∷ []) more)) ∙ none_below more (child r n) none
+        below more none = ap kinds (sym (append_assoc r (Name n ∷ []) more)) ∙ closed_down kinds (lines_are_closed lines kinds keeps data_is) more (child r n) none
 
 -- ---- along the key
 

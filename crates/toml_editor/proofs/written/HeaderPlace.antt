@@ -18,7 +18,7 @@ use Rattle.toml_editor.proofs.written.Counted.{AreLast}
 use Rattle.toml_editor.proofs.written.HeaderPut.{IsApart}
 use Rattle.toml_editor.proofs.written.HeaderSplit.{LastBelow, NextHeader, lines_of, next_header}
 use Rattle.toml_editor.proofs.written.HeaderStood.{counted_behind, index_in, parts, shown_lines, shown_stands}
-use Rattle.toml_editor.proofs.written.HeaderThere.{StandsWithHeader, end_put, put_as, put_before}
+use Rattle.toml_editor.proofs.written.HeaderThere.{StandsWithHeader, stands_at_end, stands_as, stands_before}
 use Rattle.toml_editor.proofs.written.TablesStay.{begins_under}
 
 -- ---- lines by what stands on them
@@ -89,7 +89,7 @@ module _ (brackets : Brackets) (p q : Address) (style : List ℕ) (lines : List 
         let unkeyed : has_pair back ≡ false =
         header_unkeyed (named front) parted.head.0 (lines_of parted.rest) (ap (λ (s : Standing). is_header s.base s.address) here ∙ parted.heads) in
         let alone = apart e inner front back unkeyed (ap (has_below e) are.back_stands ∙ it.behind) in
-        put_before brackets p style lines Blank [] (λ are'. tt) parted.front (parted.head ∷ parted.rest) parted.was (λ none. cc) unkeyed alone
+        stands_before brackets p style lines Blank [] (λ are'. tt) parted.front (parted.head ∷ parted.rest) parted.was (λ none. cc) unkeyed alone
         (leads front back are.lines (reached_behind e inner parted.front (parted.head ∷ parted.rest) parted.was it.last) alone) _ _
         (ap (or_line_at_end h style lines) parted.lines)
         (ap (or_last new style (standing lines)) (ap (before_next e (new style)) (sym (shown_stands lines (root ∷ []) 0)) ∙ parted.stands))
@@ -98,19 +98,19 @@ module _ (brackets : Brackets) (p q : Address) (style : List ℕ) (lines : List 
     header_put_plainly = by (innermost q) refl
       where
         end : IsReached lines → StandsWithHeader brackets p style lines Blank (line_at_end h style lines) (put_at_text_end new style (standing lines))
-        end = end_put brackets p style lines Blank [] (λ are. tt) q forms leads
+        end = stands_at_end brackets p style lines Blank [] (λ are. tt) q forms leads
 
         by : (o : Option Address) → innermost q ≡ o
             → StandsWithHeader brackets p style lines Blank (header_lines q brackets p style lines) (put_plainly (innermost q) new style (standing lines))
         by None inner =
-            put_as brackets p style lines Blank _ _ _ _ (ap (λ o. line_put_plainly o h style lines) inner) (ap (λ o. put_plainly o new style (standing lines)) inner)
+            stands_as brackets p style lines Blank _ _ _ _ (ap (λ o. line_put_plainly o h style lines) inner) (ap (λ o. put_plainly o new style (standing lines)) inner)
             (end (λ r rest i is. let (e, some', more, split) = index_in r rest i in
             let x : ◌≡◌ {A = Option Address} None (Some e) = sym inner ∙ ap innermost is ∙ some' in cc))
         by (Some e) inner =
-            put_as brackets p style lines Blank _ _ _ _ (ap (λ o. line_put_plainly o h style lines) inner) (ap (λ o. put_plainly o new style (standing lines)) inner)
+            stands_as brackets p style lines Blank _ _ _ _ (ap (λ o. line_put_plainly o h style lines) inner) (ap (λ o. put_plainly o new style (standing lines)) inner)
             (elim (next_header (h style) (new style) e (shown lines)) [
               | inl none ↦
-                  put_as brackets p style lines Blank _ _ _ _ (ap (or_line_at_end h style lines) none.put)
+                  stands_as brackets p style lines Blank _ _ _ _ (ap (or_line_at_end h style lines) none.put)
                   (ap (or_last new style (standing lines)) (ap (before_next e (new style)) (sym (shown_stands lines (root ∷ []) 0)) ∙ none.stand))
                   (end (subst IsReached (shown_lines lines (root ∷ []) 0)
                   (reached_behind e inner (shown lines) [] (sym (append-nil (shown lines)))

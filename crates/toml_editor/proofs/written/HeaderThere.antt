@@ -139,8 +139,8 @@ module _ (brackets : Brackets) (p : Address) (style : List ℕ) (lines : List Li
     pub stands : standing put ≡ stand
     pub more : IsOneMore lines put ⊎ Blank
 
-  pub put_as : (put put' : List Line) (stand stand' : List Standing) → put' ≡ put → stand' ≡ stand → StandsWithHeader put stand → StandsWithHeader put' stand'
-  put_as put put' stand stand' e f it = subst (λ x. StandsWithHeader x stand') (sym e) (subst (StandsWithHeader put) (sym f) it)
+  pub stands_as : (put put' : List Line) (stand stand' : List Standing) → put' ≡ put → stand' ≡ stand → StandsWithHeader put stand → StandsWithHeader put' stand'
+  stands_as put put' stand stand' e f it = subst (λ x. StandsWithHeader x stand') (sym e) (subst (StandsWithHeader put) (sym f) it)
 
   module _ (ws : List ℕ) (spaced : AreLines lines → IsWs ws) where
     abbrev h : List ℕ → Line
@@ -159,10 +159,10 @@ module _ (brackets : Brackets) (p : Address) (style : List ℕ) (lines : List Li
         ap (λ ms. own_address ms (header_expr brackets p ws)) (named_next before (ended style last) ∙ sym (named_next before last)) ∙ leads
 
     -- before one of the lines, where no key comes before the next header
-    pub put_before : (front back : List Shown) → shown lines ≡ front ++ back → ¬ (lines_of back ≡ []) → has_pair (lines_of back) ≡ false
+    pub stands_before : (front back : List Shown) → shown lines ≡ front ++ back → ¬ (lines_of back ≡ []) → has_pair (lines_of back) ≡ false
         → IsApart brackets p (lines_of front) (lines_of back) → Leads (lines_of front) → (put : List Line) (stand : List Standing)
         → put ≡ lines_of front ++ h style ∷ lines_of back → stand ≡ stand_of front ++ new style ∷ stand_of back → StandsWithHeader put stand
-    put_before front back was some unkeyed apart leads put stand is stands =
+    stands_before front back was some unkeyed apart leads put stand is stands =
         let are = parts front back lines [] was in
         record {
           header = record {
@@ -188,7 +188,7 @@ module _ (brackets : Brackets) (p : Address) (style : List ℕ) (lines : List Li
     before_empty : (it : BeforeEmpty h new style (shown lines)) → Leads (lines_of it.front)
         → StandsWithHeader (line_at_end h style lines) (put_at_text_end new style (standing lines))
     before_empty it leads =
-        put_before it.front (it.last ∷ []) it.was (λ none. cc) (no_bytes it.last.0 it.empty).1
+        stands_before it.front (it.last ∷ []) it.was (λ none. cc) (no_bytes it.last.0 it.empty).1
         (apart_before_empty brackets p (lines_of it.front) it.last.0 it.empty) leads _ _
         (ap (line_at_end h style) (sym (shown_lines lines (root ∷ []) 0)) ∙ it.lines)
         (ap (put_at_text_end new style) (sym (shown_stands lines (root ∷ []) 0)) ∙ it.stands)
@@ -234,9 +234,9 @@ module _ (brackets : Brackets) (p : Address) (style : List ℕ) (lines : List Li
         }
 
     -- behind the last line, which has no bytes and becomes a blank one
-    pub behind_blank : (front : List Shown) (last : Shown) → shown lines ≡ front ++ last ∷ [] → has_no_bytes (line_outline last.0) ≡ true → Leads lines → Blank
+    pub stands_behind_blank : (front : List Shown) (last : Shown) → shown lines ≡ front ++ last ∷ [] → has_no_bytes (line_outline last.0) ≡ true → Leads lines → Blank
         → StandsWithHeader (line_at_end h style (blank_at_end style lines)) (put_at_text_end new style (put_at_text_end blank_line style (standing lines)))
-    behind_blank front (last, s) was empty leads blank =
+    stands_behind_blank front (last, s) was empty leads blank =
         let before = lines_of front in
         let are = parts front ((last, s) ∷ []) lines [] was in
         let closed = before ++ ended style last ∷ [] in
@@ -276,10 +276,10 @@ module _ (brackets : Brackets) (p : Address) (style : List ℕ) (lines : List Li
         }
 
     -- at the end, where it leads to the address, if each index in `q` is that of the last table of its array
-    pub end_put : (q : Address) → AreLines lines
+    pub stands_at_end : (q : Address) → AreLines lines
         → ((front back : List Line) → lines ≡ front ++ back → AreLast (named front) q → IsApart brackets p front back → Leads front) → AreLast (named lines) q
         → StandsWithHeader (line_at_end h style lines) (put_at_text_end new style (standing lines))
-    end_put q forms leads last = elim (at_end h new style (shown lines) (shown_outlined lines (root ∷ []) 0) (some_line lines forms)) [
+    stands_at_end q forms leads last = elim (at_end h new style (shown lines) (shown_outlined lines (root ∷ []) 0) (some_line lines forms)) [
       | inl it ↦
           let front = lines_of it.front in
           let are = parts it.front (it.last ∷ []) lines [] it.was in

@@ -218,7 +218,8 @@ parent_made q last lines there =
 
 -- ---- all above it
 
-closed_down : (kinds : Kinds) → IsClosed kinds → (r x : Address) → kinds x ≡ None → kinds (x ++ r) ≡ None
+-- where nothing stands, nothing stands at any depth below
+pub closed_down : (kinds : Kinds) → IsClosed kinds → (r x : Address) → kinds x ≡ None → kinds (x ++ r) ≡ None
 closed_down kinds closed [] x none = ap kinds (append-nil x) ∙ none
 closed_down kinds closed (s ∷ r) x none = ap kinds (sym (append_assoc x (s ∷ []) r)) ∙ closed_down kinds closed r (x ++ s ∷ []) (closed x s none)
 

@@ -42,9 +42,8 @@ use Rattle.toml_working.specs.Setting.{set_lines}
 use Rattle.toml_layout.specs.declared.tree.Brackets.TheVariants.{One, Two}
 use Rattle.toml_working.specs.Written.{HasLine, HasSection, HasValue}
 use Rattle.toml_editor.specs.EditedLines.{IsInNoValue, IsWritten, header_put_in}
-use Rattle.toml_editor.proofs.written.ElementFacts.{element_room}
+use Rattle.toml_editor.proofs.written.HeaderFacts.{element_room, section_room}
 use Rattle.toml_editor.proofs.written.HeaderLaidOut.{StandsInLayout, element_laid_out, section_laid_out}
-use Rattle.toml_editor.proofs.written.SectionFacts.{section_room}
 use Rattle.toml_editor.proofs.written.SetKept.{set_short}
 use Rattle.toml_editor.proofs.written.SetFormed.{set_forms}
 use Rattle.toml_editor.proofs.written.WaySet.{set_way}
@@ -55,7 +54,7 @@ use Rattle.toml_working.specs.Manners.{Manner}
 use Rattle.std.specs.Prelude.{not}
 use Rattle.toml_layout.specs.Holders.{parent_of}
 use Rattle.toml_layout.specs.declared.tree.Brackets.{Brackets}
-use Rattle.toml_working.specs.HeaderStanding.{blank_laid_out, blank_standing, header_laid_out}
+use Rattle.toml_working.specs.HeaderStanding.{blank_standing}
 use Rattle.toml_working.specs.Standing.{standing}
 use Rattle.toml_editor.proofs.written.TablesStay.{parent_is}
 use Rattle.toml_editor.proofs.written.WayWhole.{HasWay, HasWayIf, partners, same_newlines, same_seen, way_weaker}

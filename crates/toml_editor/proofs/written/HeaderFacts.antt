@@ -1,20 +1,57 @@
--- What an element without a fault tells of the data.
-use Rattle.std.proofs.Common.{◌≡◌, ◌⊎◌, inl, inr, ℕ, zero, suc, ◌<◌, Option, Some, None, IsSome, List, [], ◌∷◌, ◌++◌, length, refl, sym, ap, subst, ◌∙◌, true≢false}
+-- What a section, or an element, without a fault tells of the data.
+use Rattle.std.proofs.Common.{◌≡◌, ◌⊎◌, ℕ, ◌<◌, ◌≤◌, Option, Some, None, IsSome, List, [], length, refl, sym, subst, ◌∙◌, inl, inr, zero, suc, ◌∷◌, ◌++◌, ap, true≢false}
 use Rattle.std.proofs.lemmas.List.{same_from_push}
 use Rattle.std.specs.Prelude.{MatchOption}
 use Rattle.toml_tree.specs.declared.profile.Profile.{Profile}
-use Rattle.toml_names.specs.declared.model.address.Step.{Step}
 use Rattle.toml_names.specs.declared.model.address.Step.TheVariants.{Index, Name}
+use Rattle.toml_names.specs.declared.model.address.Step.{Step}
 use Rattle.toml_names.specs.mentions.Mentions.{Kind, a_scalar, a_table, an_array}
 use Rattle.toml_names.specs.mentions.Rules.{max_steps}
 use Rattle.toml_names.specs.model.Addresses.{Address, child, element}
 use Rattle.toml_names.specs.model.Data.{IsClosed, Kinds}
-use Rattle.toml_edits.specs.Edits.{new_element}
+use Rattle.toml_edits.specs.Edits.{new_element, new_section}
 use Rattle.toml_edits.specs.Faults.{IsElementOf, IsFault, IsNextIndex}
-use Rattle.toml_edits.specs.declared.fault.EditFault.TheVariants.{AddressLength, IndexOutside, NoSuchPlace, NotAnElement, NotATable}
+use Rattle.toml_edits.specs.declared.fault.EditFault.TheVariants.{AddressLength, AlreadyThere, IndexOutside, NoSuchPlace, NotATable, NotAnElement}
 use Rattle.toml_editor.proofs.written.Closed.{no_end}
 use Rattle.toml_editor.proofs.written.Fitting.{at_most, last_step}
-use Rattle.toml_editor.proofs.written.SectionFacts.{HasSoMany, IsNextElement}
+
+-- ---- a section
+
+-- a table stands at the address, nothing does at the name in it, and that is short enough
+pub record IsRoom (q : Address) (name : List ℕ) (kinds : Kinds) : Type 0 where
+  pub table : kinds q ≡ Some a_table
+  pub free : kinds (child q name) ≡ None
+  pub short : length (child q name) ≤ max_steps
+
+pub section_room : (profile : Profile) (q : Address) (name : List ℕ) (kinds : Kinds) → IsFault profile (new_section (child q name)) kinds None → IsRoom q name kinds
+section_room profile q name kinds none = record {
+  table = of_table (kinds q) refl;
+  free = of_free (kinds (child q name)) refl;
+  short = at_most (length (child q name)) max_steps (none AddressLength);
+}
+  where
+    of_table : (o : Option Kind) → kinds q ≡ o → kinds q ≡ Some a_table
+    of_table None is = absurd (none NoSuchPlace (q, Name name, refl, is))
+    of_table (Some a_table) is = is
+    of_table (Some an_array) is = absurd (none NotATable (q, name, refl, λ h. (let x : ◌≡◌ {A = Option Kind} (Some an_array) (Some a_table) = sym is ∙ h in cc)))
+    of_table (Some (a_scalar v)) is = absurd (none NotATable (q, name, refl, λ h. (let x : ◌≡◌ {A = Option Kind} (Some (a_scalar v)) (Some a_table) = sym is ∙ h in cc)))
+
+    of_free : (o : Option Kind) → kinds (child q name) ≡ o → kinds (child q name) ≡ None
+    of_free None is = is
+    of_free (Some k) is = absurd (none AlreadyThere (q, name, refl, subst IsSome (sym is) refl))
+
+-- ---- an element
+
+-- the array is not there, and so many are none, or it is there, and has so many elements
+abbrev pub HasSoMany : Kinds → Address → ℕ → Type 0
+HasSoMany kinds q i = ((kinds q ≡ None) × (i ≡ 0)) ⊎ ((kinds q ≡ Some an_array) × ((j : ℕ) → j < i → IsSome (kinds (element q j))))
+
+-- The element is the next one of its array, which a table has, or which is not there: then it is the first one.
+pub record IsNextElement (q : Address) (i : ℕ) (kinds : Kinds) : Type 0 where
+  pub table : (r : Address) × (n : List ℕ) × (q ≡ child r n) × (kinds r ≡ Some a_table)
+  pub next : HasSoMany kinds q i
+  pub free : kinds (element q i) ≡ None
+  pub short : length (element q i) ≤ max_steps
 
 module _ (profile : Profile) (q : Address) (i : ℕ) (kinds : Kinds) (closed : IsClosed kinds) (none : IsFault profile (new_element (element q i)) kinds None) where
   abbrev p : Address

@@ -1,4 +1,4 @@
--- Where layout `Plain` puts the header line of a new element: it may stand there, and no line behind stands at its array or below it.
+-- Where layout `Plain` puts the header line of a section or an element without a fault.
 use Rattle.std.proofs.Common.{◌≡◌, ◌⊎◌, inl, inr, ℕ, Bool, true, false, ◌||◌, Option, Some, None, List, [], ◌∷◌, ◌++◌, length, length-append, refl, sym, ap, ap₂, ◌∙◌, subst, true≢false, append-nil, append_assoc}
 use Rattle.std.specs.List.{list_any}
 use Rattle.toml_tree.specs.Spells.{AreLines, EachIs}
@@ -13,7 +13,7 @@ use Rattle.toml_names.specs.model.Data.{IsDataOf, Kinds}
 use Rattle.toml_names.specs.reader.Names.{own_address}
 use Rattle.toml_names.proofs.Proved.{header_is_section}
 use Rattle.toml_layout.specs.Beginnings.{begins}
-use Rattle.toml_layout.specs.declared.tree.Brackets.TheVariants.{Two}
+use Rattle.toml_layout.specs.declared.tree.Brackets.TheVariants.{One, Two}
 use Rattle.toml_working.specs.declared.lines.Sought.TheVariants as sought
 use Rattle.toml_working.specs.Heading.{header_lines}
 use Rattle.toml_working.specs.Headers.{has_below, inner_of, innermost, new_header, put_plainly}
@@ -26,11 +26,13 @@ use Rattle.toml_editor.proofs.written.DocumentSections.{named_next}
 use Rattle.toml_editor.proofs.written.ElementCounted.{apart_element, next_leads}
 use Rattle.toml_editor.proofs.written.ElementHeaded.{element_headed, inner_is, none_holds}
 use Rattle.toml_editor.proofs.written.EmptyAlone.{not_any}
+use Rattle.toml_editor.proofs.written.HeaderLeads.{leads}
 use Rattle.toml_editor.proofs.written.HeaderPlace.{header_put_plainly}
 use Rattle.toml_editor.proofs.written.HeaderPut.{IsApart}
 use Rattle.toml_editor.proofs.written.HeaderThere.{StandsWithHeader}
-use Rattle.toml_editor.proofs.written.SectionFacts.{IsNextElement}
+use Rattle.toml_editor.proofs.written.HeaderFacts.{IsNextElement, IsRoom}
 use Rattle.toml_editor.proofs.written.TablesStay.{begins_under, under_begins}
+use Rattle.toml_editor.specs.EditedLines.{IsInNoValue}
 
 -- names lead to no other innermost element
 inner_child : (r : Address) (n : List ℕ) → innermost (child r n) ≡ innermost r
@@ -97,7 +99,16 @@ module _ (e array : Address) (i : ℕ) (e_is : e ≡ element array i) (rest : Ad
       by (TableLine ws header tail) is or' off = headed (TableLine ws header tail) tt off
       by (ArrayTableLine ws header tail) is or' off = headed (ArrayTableLine ws header tail) tt off
 
--- by layout `Plain` the header line goes where it may stand
+-- ---- by layout `Plain` the header line goes where it may stand
+
+pub section_put_plainly : (q : Address) (name style : List ℕ) (lines : List Line) (Blank : Type 0) (kinds : Kinds) → AreLines lines → KeepsRules (named lines) → IsDataOf (named lines) kinds
+    → IsRoom q name kinds → IsInNoValue lines q
+    → StandsWithHeader One (child q name) style lines Blank (header_lines q One (child q name) style lines)
+    (put_plainly (innermost q) (new_header (child q name) One []) style (standing lines))
+section_put_plainly q name style lines Blank kinds forms keeps facts room outside =
+    header_put_plainly One (child q name) q style lines Blank forms (λ front back split reached apart. leads lines front back q name [] kinds split keeps facts room.table reached)
+    (element_headed lines q kinds keeps facts room.table outside) (λ e inner front back unkeyed unheaded. tt)
+
 pub element_put_plainly : (q : Address) (i : ℕ) (style : List ℕ) (lines : List Line) (Blank : Type 0) (kinds : Kinds) → AreLines lines → KeepsRules (named lines) → IsDataOf (named lines) kinds
     → IsNextElement q i kinds → list_any (holds q) (standing lines) ≡ false
     → StandsWithHeader Two (element q i) style lines Blank (header_lines q Two (element q i) style lines)
