@@ -93,7 +93,8 @@ module _ (q : Address) where
           let one = line_element xs line e (λ no. absurd (omega (arith, is, no))) in
           elim (split j (count_tables xs q) (let two = one.0 in omega (arith, all, two, low))) [
             | inl lower ↦ in_front lower
-            | inr here ↦ has_append_right (IsNamedAt (element q j)) xs (named_by xs line e) (subst (λ c. Has (IsNamedAt (element q c)) (named_by xs line e)) (sym here) one.1)
+            | inr here ↦ has_append_right (IsNamedAt (element q j)) xs (named_by xs line e)
+                (subst (λ c. Has (IsNamedAt (element q c)) (named_by xs line e)) (sym here) one.1)
           ]
         where
           split : (x y : ℕ) → x < y + 1 → (x < y) ⊎ (x ≡ y)

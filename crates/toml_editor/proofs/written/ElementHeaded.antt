@@ -59,6 +59,7 @@ pub record IsInner (q e : Address) : Type 0 where
   pub rest : Address
   pub front : q ≡ e ++ rest
 
+-- the innermost element of an address, if it has one
 pub inner_is : (q e : Address) → innermost q ≡ Some e → IsInner q e
 inner_is [] e is = cc
 inner_is (s ∷ q) e is = by (innermost q) refl s (λ f found. inner_is q f found) is

@@ -136,7 +136,8 @@ module _ (brackets : Brackets) (p q family : Address) (style : List ℕ) (may : 
         all : AreLines lines → IsWs ws
         all = spaced (standing lines) [] (sym (append-nil (standing lines)))
 
-        by : (b : Bool) → (may && wants_blank (standing lines)) ≡ b → WithHeader (header_at_end p brackets style may lines) (put_at_end p brackets style may (standing lines))
+        by : (b : Bool) → (may && wants_blank (standing lines)) ≡ b
+            → WithHeader (header_at_end p brackets style may lines) (put_at_end p brackets style may (standing lines))
         by false enough =
             stands_as brackets p style lines Blank _ _ _ _ (ap (line_at_end (header_line brackets p ws) style) (cond-false _ _ _ enough))
             (ap (put_at_text_end (new_header p brackets ws) style) (cond-false _ _ _ enough))

@@ -23,6 +23,7 @@ pub record IsRoom (q : Address) (name : List ℕ) (kinds : Kinds) : Type 0 where
   pub free : kinds (child q name) ≡ None
   pub short : length (child q name) ≤ max_steps
 
+-- so it is where a section has no fault
 pub section_room : (profile : Profile) (q : Address) (name : List ℕ) (kinds : Kinds) → IsFault profile (new_section (child q name)) kinds None → IsRoom q name kinds
 section_room profile q name kinds none = record {
   table = of_table (kinds q) refl;
@@ -121,6 +122,7 @@ module _ (profile : Profile) (q : Address) (i : ℕ) (kinds : Kinds) (closed : I
           taken : OfKind (Some k) → ⊥
           taken w = (let x : ◌≡◌ {A = Option Kind} (Some l) None = sym is ∙ w.2 in cc)
 
+  -- so the element is the next one
   pub element_room : IsNextElement q i kinds
   element_room = record {
     table = let (r, n, is) = named_array in (r, n, is, is_table r n is);

@@ -42,7 +42,7 @@ use Rattle.toml_editor.proofs.written.Closed.{no_end}
 use Rattle.toml_editor.proofs.written.HeaderFacts.{element_room, section_room}
 use Rattle.toml_editor.proofs.written.Follow.{follows}
 use Rattle.toml_editor.proofs.written.FollowedFacts.{name_is_no_element}
-use Rattle.toml_editor.proofs.written.HeaderLaidOut.{element_laid_out, section_laid_out}
+use Rattle.toml_editor.proofs.written.HeaderLaidOut.{StandsInLayout, element_laid_out, section_laid_out}
 use Rattle.toml_editor.proofs.written.InTurn.{header_is_taken}
 use Rattle.toml_editor.proofs.written.StandingOrder.{rules_order}
 use Rattle.toml_editor.proofs.written.TablesStay.{parent_is}
@@ -69,8 +69,8 @@ still_may false false true = refl
 still_may false false false = refl
 
 module _ (profile : Profile) (read : Read) (old new : Tree) (brackets : Brackets) (p q : Address) (last : Step) (text : List ℕ) (kinds : Kinds)
-    (at : IsAt profile read old text kinds) (own : p ≡ q ++ last ∷ []) (outside : IsInNoValue at.good.tree.lines q) (array : ArrayIsNotRoot q p) (rest : KeepsTexts old new)
-    (steps : List (String Global)) (spells : AreSteps p steps) (done : Bool) (puts : WritesHeader brackets read p steps old new done) where
+    (at : IsAt profile read old text kinds) (own : p ≡ q ++ last ∷ []) (outside : IsInNoValue at.good.tree.lines q) (array : ArrayIsNotRoot q p)
+    (rest : KeepsTexts old new) (steps : List (String Global)) (spells : AreSteps p steps) (done : Bool) (puts : WritesHeader brackets read p steps old new done) where
   abbrev lines : List Line
   lines = at.good.tree.lines
 
@@ -90,17 +90,25 @@ module _ (profile : Profile) (read : Read) (old new : Tree) (brackets : Brackets
       written r = blank_standing r p brackets (manner old) (may_write_blank old) (standing lines)
 
   -- it is made, and the tree then stands for the lines with it
-  header_made : (put : List Line) → standing put ≡ header_laid_out (manner old).layout q p brackets (manner old) (may_write_blank old) (standing lines)
-      → (done ≡ true) × Stands (text_of new.texts.source) read new.slots.items (standing put) × (manner new ≡ manner_behind brackets p (manner old) lines)
-  header_made put laid =
+  header_made : StandsInLayout (manner old).layout q brackets (q ++ last ∷ []) (manner old) lines
+      → (done ≡ true) × Stands (text_of new.texts.source) read new.slots.items (standing (header_put_in (manner old).layout q brackets p (manner old) lines))
+      × (manner new ≡ manner_behind brackets p (manner old) lines)
+  header_made there =
       let rules = at.good.good.0 in
-      let asked : IsAsked q p (innermost q) steps = record { right = (last, own); inner = refl; array = array; spells = are_spellings p (map string_bytes steps) spells } in
+      let laid = subst Laid (sym own) there.stands in
+      let asked : IsAsked q p (innermost q) steps =
+      record { right = (last, own); inner = refl; array = array; spells = are_spellings p (map string_bytes steps) spells } in
       let (stands, told, blank) = puts q last own asked (standing lines) at.stands (rules_order lines rules)
       (header_is_taken (manner old).layout q lines at.good.spelled.0.lines.forms rules) in (
         told ∙ ap not outside,
         subst₂ (λ (s : Texts) ls. Stands (text_of s.source) read new.slots.items ls) (sym rest.texts) (cond-false _ _ _ outside ∙ sym laid) stands,
         header_manner blank,
       )
+    where
+      Laid : Address → Type 0
+      Laid x =
+          standing (header_put_in (manner old).layout q brackets x (manner old) lines)
+          ≡ header_laid_out (manner old).layout q x brackets (manner old) (may_write_blank old) (standing lines)
 
 -- a section is made, and so is the text
 pub section_follows : (profile : Profile) (read : Read) (old new : Tree) (p : Address) (text : List ℕ) (kinds now : Kinds) (at : IsAt profile read old text kinds)
@@ -112,10 +120,8 @@ section_follows profile read old new p text kinds now at none is_after (q, name,
     let room = section_room profile q name kinds (subst (λ x. IsFault profile (new_section x) kinds None) own none) in
     let array : ArrayIsNotRoot q p = subst (ArrayIsNotRoot q) (sym own) (λ some root. (let x = name_is_no_element q name in cc)) in
     let put = header_put_in (manner old).layout q One p (manner old) lines in
-    let goes = section_laid_out q name (manner old) lines kinds at.good.spelled.0.lines.forms at.good.good.0 at.good.facts room outside in
-    let (is_done, stands, mannered) = header_made profile read old new One p q (Name name) text kinds at own outside array rest steps spells done puts put
-    (subst (λ x. standing (header_put_in (manner old).layout q One x (manner old) lines) ≡ header_laid_out (manner old).layout q x One (manner old) (may_write_blank old) (standing lines))
-    (sym own) goes.stands) in (
+    let there = section_laid_out q name (manner old) lines kinds at.good.spelled.0.lines.forms at.good.good.0 at.good.facts room outside in
+    let (is_done, stands, mannered) = header_made profile read old new One p q (Name name) text kinds at own outside array rest steps spells done puts there in (
       is_done,
       follows profile read (new_section p) old new text kinds now put at.newline at.good none is_after (q, name, own, outside, refl) stands
           (subst NoneIsGone (sym rest.elements) at.whole) rest.texts mannered,
@@ -128,13 +134,12 @@ pub element_follows : (profile : Profile) (read : Read) (old new : Tree) (p : Ad
     → (done ≡ true) × Follows profile read (new_element p) old new text now
 element_follows profile read old new p text kinds now at none is_after (q, i, own, outside) rest steps spells done puts =
     let lines = at.good.tree.lines in
-    let room = element_room profile q i kinds (lines_are_closed lines kinds at.good.good.0 at.good.facts) (subst (λ x. IsFault profile (new_element x) kinds None) own none) in
+    let room = element_room profile q i kinds (lines_are_closed lines kinds at.good.good.0 at.good.facts)
+    (subst (λ x. IsFault profile (new_element x) kinds None) own none) in
     let array : ArrayIsNotRoot q p = (λ some root. no_end room.table.0 (Name room.table.1) [] (sym root ∙ room.table.2)) in
     let put = header_put_in (manner old).layout q Two p (manner old) lines in
-    let goes = element_laid_out q i (manner old) lines kinds at.good.spelled.0.lines.forms at.good.good.0 at.good.facts room outside in
-    let (is_done, stands, mannered) = header_made profile read old new Two p q (Index i) text kinds at own outside array rest steps spells done puts put
-    (subst (λ x. standing (header_put_in (manner old).layout q Two x (manner old) lines) ≡ header_laid_out (manner old).layout q x Two (manner old) (may_write_blank old) (standing lines))
-    (sym own) goes.stands) in (
+    let there = element_laid_out q i (manner old) lines kinds at.good.spelled.0.lines.forms at.good.good.0 at.good.facts room outside in
+    let (is_done, stands, mannered) = header_made profile read old new Two p q (Index i) text kinds at own outside array rest steps spells done puts there in (
       is_done,
       follows profile read (new_element p) old new text kinds now put at.newline at.good none is_after (q, i, own, outside, refl) stands
           (subst NoneIsGone (sym rest.elements) at.whole) rest.texts mannered,

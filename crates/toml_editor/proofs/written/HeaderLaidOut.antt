@@ -44,6 +44,7 @@ pub section_laid_out : (q : Address) (name : List ℕ) (manner : Manner) (lines 
 section_laid_out q name manner lines kinds forms keeps facts room outside =
     section_by_layout manner lines kinds forms keeps facts manner.layout q name room outside
 
+-- and so of an element
 pub element_laid_out : (q : Address) (i : ℕ) (manner : Manner) (lines : List Line) (kinds : Kinds) → AreLines lines → KeepsRules (named lines)
     → IsDataOf (named lines) kinds → IsNextElement q i kinds → IsInNoValue lines q → StandsInLayout manner.layout q Two (element q i) manner lines
 element_laid_out q i manner lines kinds forms keeps facts room outside =

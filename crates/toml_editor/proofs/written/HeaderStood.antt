@@ -36,6 +36,7 @@ use Rattle.toml_editor.proofs.written.InsertPlace.{IsHeadless}
 
 -- ---- lines, each with what stands on it
 
+-- the lines are those that are shown, and what stands on them is that
 pub shown_lines : (ls : List Line) (xs : List Named) (n : ℕ) → lines_of (shown_from xs n ls) ≡ ls
 shown_lines [] xs n = refl
 shown_lines (l ∷ ls) xs n = ap (λ r. l ∷ r) (shown_lines ls (xs ++ named_by xs n l.expr) (n + 1))
@@ -54,6 +55,7 @@ pub record AreParts (before ls : List Line) (front back : List Shown) : Type 0 w
   pub front_stands : standing_from (named before) (length before) (lines_of front) ≡ stand_of front
   pub back_stands : standing_from (named (before ++ lines_of front)) (length (before ++ lines_of front)) (lines_of back) ≡ stand_of back
 
+-- where lines are shown in two parts, they are these parts, and stand so
 pub parts : (front back : List Shown) (ls before : List Line) → shown_from (named before) (length before) ls ≡ front ++ back → AreParts before ls front back
 parts [] back ls before is =
     let are : ls ≡ lines_of back = sym (shown_lines ls (named before) (length before)) ∙ ap lines_of is in
@@ -164,6 +166,7 @@ header_stands : (brackets : Brackets) (p : Address) (front back : List Line) (ws
 header_stands brackets p front back ws newline leads apart unkeyed =
     ap₂ (λ s t. s ∷ t) (header_stood brackets p ws newline (named front) leads) (others_stand brackets p front back ws leads apart unkeyed)
 
+-- so it is of all lines
 pub put_stands : (brackets : Brackets) (p : Address) (front back : List Line) (ws newline : List ℕ) → own_address (named front) (header_expr brackets p ws) ≡ Some p
     → IsApart brackets p front back → has_pair back ≡ false
     → standing (front ++ header_line brackets p ws newline ∷ back)

@@ -115,6 +115,7 @@ blank_behind style (m ∷ k ∷ ls) l = ap (λ r. m ∷ r) (blank_behind style (
 
 -- ---- an array of which the header line stands behind all lines
 
+-- no line behind it is at the array, or below it
 pub apart_at_end : (brackets : Brackets) (p : Address) (front : List Line) → IsApart brackets p front []
 apart_at_end One p front = tt
 apart_at_end Two p front = λ q i is. refl
@@ -128,6 +129,7 @@ pub lines_there : (ls : List Line) → AreLines ls → ¬ (ls ≡ [])
 lines_there [] are is = are
 lines_there (l ∷ ls) are is = cc
 
+-- lines in the forms are shown
 pub some_line : (lines : List Line) → AreLines lines → ¬ (shown lines ≡ [])
 some_line lines forms none = lines_there lines forms (sym (shown_lines lines (root ∷ []) 0) ∙ ap lines_of none)
 
@@ -139,6 +141,7 @@ module _ (brackets : Brackets) (p : Address) (style : List ℕ) (lines : List Li
     pub stands : standing put ≡ stand
     pub more : IsOneMore lines put ⊎ Blank
 
+  -- so it is of what is the same
   pub stands_as : (put put' : List Line) (stand stand' : List Standing) → put' ≡ put → stand' ≡ stand → StandsWithHeader put stand → StandsWithHeader put' stand'
   stands_as put put' stand stand' e f it = subst (λ x. StandsWithHeader x stand') (sym e) (subst (StandsWithHeader put) (sym f) it)
 

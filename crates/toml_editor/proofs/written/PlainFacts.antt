@@ -99,18 +99,21 @@ module _ (e array : Address) (i : ℕ) (e_is : e ≡ element array i) (rest : Ad
       by (TableLine ws header tail) is or' off = headed (TableLine ws header tail) tt off
       by (ArrayTableLine ws header tail) is or' off = headed (ArrayTableLine ws header tail) tt off
 
--- ---- by layout `Plain` the header line goes where it may stand
+-- ---- by layout `Plain` the header line is put in where it may stand
 
-pub section_put_plainly : (q : Address) (name style : List ℕ) (lines : List Line) (Blank : Type 0) (kinds : Kinds) → AreLines lines → KeepsRules (named lines) → IsDataOf (named lines) kinds
-    → IsRoom q name kinds → IsInNoValue lines q
+-- that of a section
+pub section_put_plainly : (q : Address) (name style : List ℕ) (lines : List Line) (Blank : Type 0) (kinds : Kinds) → AreLines lines → KeepsRules (named lines)
+    → IsDataOf (named lines) kinds → IsRoom q name kinds → IsInNoValue lines q
     → StandsWithHeader One (child q name) style lines Blank (header_lines q One (child q name) style lines)
     (put_plainly (innermost q) (new_header (child q name) One []) style (standing lines))
 section_put_plainly q name style lines Blank kinds forms keeps facts room outside =
-    header_put_plainly One (child q name) q style lines Blank forms (λ front back split reached apart. leads lines front back q name [] kinds split keeps facts room.table reached)
+    header_put_plainly One (child q name) q style lines Blank forms
+    (λ front back split reached apart. leads lines front back q name [] kinds split keeps facts room.table reached)
     (element_headed lines q kinds keeps facts room.table outside) (λ e inner front back unkeyed unheaded. tt)
 
-pub element_put_plainly : (q : Address) (i : ℕ) (style : List ℕ) (lines : List Line) (Blank : Type 0) (kinds : Kinds) → AreLines lines → KeepsRules (named lines) → IsDataOf (named lines) kinds
-    → IsNextElement q i kinds → list_any (holds q) (standing lines) ≡ false
+-- and that of an element
+pub element_put_plainly : (q : Address) (i : ℕ) (style : List ℕ) (lines : List Line) (Blank : Type 0) (kinds : Kinds) → AreLines lines → KeepsRules (named lines)
+    → IsDataOf (named lines) kinds → IsNextElement q i kinds → list_any (holds q) (standing lines) ≡ false
     → StandsWithHeader Two (element q i) style lines Blank (header_lines q Two (element q i) style lines)
     (put_plainly (innermost q) (new_header (element q i) Two []) style (standing lines))
 element_put_plainly q i style lines Blank kinds forms keeps facts next outside =

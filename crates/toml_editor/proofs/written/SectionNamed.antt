@@ -208,7 +208,12 @@ module _ (brackets : Brackets) (p : Address) (style : List ℕ) (old new : List 
 
   -- the new lines name what the old ones did, and in one place what the new header names
   pub put_names : (block : List Named) → put_block ≡ block → IsPut (named_plain old) block (named_plain new)
-  put_names block are = record { front = xs; back = behind xs put.back; before = named_between.was; after = named_between.is ∙ ap (λ b. xs ++ (b ++ behind xs put.back)) are }
+  put_names block are = record {
+    front = xs;
+    back = behind xs put.back;
+    before = named_between.was;
+    after = named_between.is ∙ ap (λ b. xs ++ (b ++ behind xs put.back)) are;
+  }
 
 -- ---- sections
 
