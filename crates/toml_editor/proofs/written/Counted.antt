@@ -33,6 +33,7 @@ adds_none r m plain = by (same_address m.address r)
     by true = ap one_if plain
     by false = refl
 
+-- so it may be left out
 pub count_none : (r : Address) (m : Named) (ms : List Named) → is_tables m.role ≡ false → count_tables (m ∷ ms) r ≡ count_tables ms r
 count_none r m ms plain = let e = adds_none r m plain in omega (arith, e, count_cons m ms r)
 

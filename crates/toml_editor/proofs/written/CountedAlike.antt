@@ -147,6 +147,7 @@ module _ (xs ys : List Named) (n m : ℕ) (ls : List Line) where
             ∙ numbers.counts at;
       }
 
+  -- so is any line, where it is alike before it
   pub line_alike : (e : Expr) (newline : Piece) → IsSameSection xs ys (record { expr = e; newline = newline } ∷ ls) → AreCountedBut (IsUnseen (own_address xs e)) xs ys
       → IsAlike xs ys n m e ls
   line_alike (BlankLine b) newline sections same = record {
@@ -194,6 +195,7 @@ stand_same (l ∷ ls) xs ys n m sections same =
       ]),
     )
 
+-- then the same stands on them
 pub standing_same : (ls : List Line) (xs ys : List Named) (n m : ℕ) → StandSame ls xs ys n m → standing_from xs n ls ≡ standing_from ys m ls
 standing_same [] xs ys n m same = refl
 standing_same (l ∷ ls) xs ys n m same =

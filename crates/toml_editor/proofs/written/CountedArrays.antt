@@ -87,6 +87,7 @@ count_unnamed lines r not = by (count_tables (named lines) r) refl
     by zero none = none
     by (suc k) is = absurd (not (counted_arrays lines r (λ no. absurd (omega (arith, is, no)))).0)
 
+-- the address of an element ends in no name, nor does that of the root
 pub element_unnamed : (at : Address) (i : ℕ) → ¬ IsNamedLast (element at i)
 element_unnamed at i (u, n, is) = let same = (same_from_push at u (Index i) (Name n) is).1 in cc
 

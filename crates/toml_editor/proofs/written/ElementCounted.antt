@@ -263,6 +263,7 @@ module _ (q : Address) (i : ℕ) (lines : List Line) (kinds : Kinds) (keeps : Ke
       elements (inl first) j low = absurd (let zero_is = first.1 in omega (arith, zero_is, low))
       elements (inr more) j low = more.1 j low
 
+  -- so does that of the next element
   pub next_leads : (ws : List ℕ) (front back : List Line) → lines ≡ front ++ back → AreLast (named front) q → IsApart Two (element q i) front back
       → own_address (named front) (header_expr Two (element q i) ws) ≡ Some (element q i)
   next_leads ws front back split last apart =

@@ -296,7 +296,7 @@ before_text : (l m : Line) (ls : List Line)
 before_text l m ls = parts_join (line_parts l) (lines_parts (m ∷ ls))
 
 -- the lines end with one of no bytes
-abbrev pub EndsBare : List Line → Type 0
+abbrev EndsBare : List Line → Type 0
 EndsBare lines = (front : List Line) × (l : Line) × (lines ≡ front ++ l ∷ []) × (joined (expr_parts l.expr) ≡ []) × (l.newline.text ≡ [])
 
 front_none : (x y : List ℕ) → x ++ y ≡ [] → x ≡ []

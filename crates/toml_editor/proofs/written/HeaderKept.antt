@@ -95,6 +95,7 @@ module _ (E : Named → Type 0) (end : Address → List Named) (xs : List Named)
         header_pairs (m ∷ more) to are pairs ends,
       )
 
+  -- what the header names is such a block
   pub header_block : (key : Key) (a : Address) (block : List Named) → HasNames key → header_end xs [] key ≡ a → followed 0 xs end [] key ≡ block
       → EachIs E (end a) → PairsAre Goes (end a) → IsAtEnd E a → IsHeaderBlock E end a xs block
   header_block key a block (n, ns, some) leads names are pairs ends =
@@ -200,6 +201,7 @@ module _ (kinds : Kinds) (q : Address) (xs : List Named) where
   array_role Element k is array v = absurd (let f : ⊥ = cc in f)
   array_role Bare k is array v = (refl, refl)
 
+  -- an array of tables that is there goes with what was named
   pub array_goes : (b : Named) → b.role ≡ Tables → b.address ≡ q → kinds q ≡ Some an_array → BothGo b
   array_goes b role at array = (
     (λ e was same. subst (λ r. may_follow e.role r ≡ true) (sym role) (roles e was same).0),

@@ -27,6 +27,7 @@ use Rattle.toml_editor.proofs.written.TablesStay.{closed_down}
 
 -- ---- a name is put in a table
 
+-- what is named at an address, and is of this kind
 abbrev pub IsKindAt : Address → Kind → Named → Type 0
 IsKindAt at k m = (m.address ≡ at) × (m.kind ≡ k)
 
@@ -164,6 +165,7 @@ names_again : (names : Key) → map (λ (d : Dotted). part_name d.part) (map dot
 names_again [] = refl
 names_again (n ∷ names) = ap₂ (λ a b. a ∷ b) (spelled_again n) (names_again names)
 
+-- names that are spelled as a key are read again
 pub key_again : (n : List ℕ) (names : Key) → key_names (key_named (n ∷ names)) ≡ n ∷ names
 key_again n names = ap₂ (λ a b. a ∷ b) (spelled_again n) (names_again names)
 

@@ -125,7 +125,7 @@ apart_before_empty One p front l is = tt
 apart_before_empty Two p front l is = λ q i at. ap (λ s. list_any (is_below q) (s ∷ [])) (empty_stands (named front) l l.newline is)
 
 -- of lines in the forms there is one
-pub lines_there : (ls : List Line) → AreLines ls → ¬ (ls ≡ [])
+lines_there : (ls : List Line) → AreLines ls → ¬ (ls ≡ [])
 lines_there [] are is = are
 lines_there (l ∷ ls) are is = cc
 

@@ -78,6 +78,7 @@ last_of : (front : List Line) (l : Line) (xs : List Named) (n : ℕ) → IsExpr 
 last_of [] l xs n form none = subst LastIsBare (sym (append-nil (line_units xs l.expr))) (bare_line xs l.expr form none)
 last_of (m ∷ front) l xs n form none = bare_append (line_units xs m.expr) _ (last_of front l (xs ++ named_by xs n m.expr) (n + 1) form none)
 
+-- Where the text ends in a newline, it is so of its units.
 pub last_is_bare : (lines : List Line) → AreLines lines → ends_in_newline (joined (lines_parts lines)) ≡ true → LastIsBare (units lines)
 last_is_bare lines forms ends =
     let (front, l, is, none, ended) = ends_bare lines forms ends in

@@ -84,6 +84,7 @@ key_is (n ∷ names) ps = ap (λ r. spelled n ++ r) (dotted_is names ps) ∙ sym
 -- ---- a new header line
 
 module _ (brackets : Brackets) (p : Address) (ws : List ℕ) where
+  -- the unit of the header line
   abbrev pub header_block : List TextUnit
   header_block = header_line_units (fresh (header_text brackets ws p)) p
 

@@ -192,6 +192,7 @@ pub section_way : (q : Address) (name style : List ℕ) (old edited : List Line)
     → HasWayIf (IsOneMore old edited) (new_section (child q name) ∷ []) ([] ∷ []) old edited
 section_way q name = let p = child q name in header_way (new_section p) (section_puts p) One
 
+-- and so of an element
 pub element_way : (q : Address) (i : ℕ) (style : List ℕ) (old edited : List Line) → IsHeaderPut Two (element q i) style old edited → AreLines old
     → HasWayIf (IsOneMore old edited) (new_element (element q i) ∷ []) ([] ∷ []) old edited
 element_way q i = let p = element q i in header_way (new_element p) (element_puts p) Two

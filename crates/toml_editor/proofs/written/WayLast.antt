@@ -24,6 +24,7 @@ pub record LastIsBare (us : List TextUnit) : Type 0 where
   pub nowhere : last.address ≡ None
   pub none : lines_in back ≡ 0
 
+-- so it is behind one more unit
 pub bare_behind : (w : TextUnit) (us : List TextUnit) → LastIsBare us → LastIsBare (w ∷ us)
 bare_behind w us it = record {
   front = w ∷ it.front;

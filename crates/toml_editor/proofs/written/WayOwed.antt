@@ -127,7 +127,7 @@ owes_of (remove p) r a is = absurd is
 owes_of (new_section p) r a is = inr is
 owes_of (new_element p) r a is = inr is
 
-pub owed_below : (cs : List Change) (a : Address) → IsOwedBelow cs a → IsOwed cs a
+owed_below : (cs : List Change) (a : Address) → IsOwedBelow cs a → IsOwed cs a
 owed_below [] a is = is
 owed_below (c ∷ cs) a (inl (r, to, is, goes, owes)) = inl (r, to, is, goes, owes_of c to a owes)
 owed_below (c ∷ cs) a (inr more) = inr (owed_below cs a more)
@@ -150,7 +150,7 @@ owes_on (new_section p) r a to b up down is = elim is [ inl x ↦ inl (up x) | i
 owes_on (new_element p) r a to b up down is = elim is [ inl x ↦ inl (up x) | inr x ↦ inr (down x) ]
 
 -- what the first edit owes it owes where the others carry it, if what is below goes along
-pub owed_on : (c : Change) (cs : List Change) (a b : Address) → carried cs a ≡ Some b
+owed_on : (c : Change) (cs : List Change) (a b : Address) → carried cs a ≡ Some b
     → ((rest : Address) → carried cs (a ++ rest) ≡ option_map (λ x. x ++ rest) (carried cs a)) → IsOwed (c ∷ []) a → IsOwed (c ∷ cs) b
 owed_on c cs a b goes all (inr none) = absurd none
 owed_on c cs a b goes all (inl (r, q, is, same, owes)) =
@@ -187,7 +187,7 @@ below_there (remove p) r a to b was is = was
 below_there (new_section p) r a to b was is = is
 below_there (new_element p) r a to b was is = is
 
-pub below_on : (c : Change) (cs : List Change) (a b : Address) → carried cs a ≡ Some b → IsOwedBelow (c ∷ []) a → IsOwedBelow (c ∷ cs) b
+below_on : (c : Change) (cs : List Change) (a b : Address) → carried cs a ≡ Some b → IsOwedBelow (c ∷ []) a → IsOwedBelow (c ∷ cs) b
 below_on c cs a b goes (inr none) = absurd none
 below_on c cs a b goes (inl (r, q, is, same, owes)) =
     let owes' = at_itself (λ x. OwesBelow c x a) r q same owes in
