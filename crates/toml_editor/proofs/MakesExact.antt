@@ -1,6 +1,7 @@
 -- The making of edits, one after the other, and the texts for which the working tree then stands.
 use Rattle.std.proofs.Common.{◌≡◌, ◌⊎◌, ◌+◌, ◌<◌, ◌≤◌, inl, inr, ℕ, Bool, List, [], ◌∷◌, ◌++◌, take, true, false, true≢false, None, Some, refl, sym, ap, ap₂, subst, subst₂, ◌∙◌, arith}
 use Rattle.std.proofs.lemmas.Bool.{cases_lt}
+use Rattle.std.proofs.lemmas.List.{same_from_push}
 use Rattle.std.proofs.lemmas.Option.{same_Some}
 use Rattle.std.proofs.Math.Path.{fun_ext}
 use Rattle.std.specs.Prelude.{slice_get}
@@ -37,6 +38,7 @@ use Rattle.toml_working.specs.Stands.{Stands}
 use Rattle.toml_editor.specs.Steps.{AreWritten, last_manner}
 use Rattle.toml_editor.specs.EditedLines.{IsWritten, manner_after}
 use Rattle.toml_editor.proofs.Mannered.{last_layout}
+use Rattle.toml_editor.proofs.written.Closed.{no_end}
 use Rattle.toml_editor.proofs.written.Follow.{remove_follows, set_follows, set_is_there}
 use Rattle.toml_editor.proofs.written.InsertFollow.{insert_follows}
 use Rattle.toml_editor.proofs.written.RemoveNamed.{line_parts}
@@ -218,25 +220,9 @@ passes_one profile read near (new_element p) old new done writes (inr one) text 
 
 -- ---- lists
 
-no_edit : {A : Type 0} (xs : List A) (x : A) → ¬ (xs ++ x ∷ [] ≡ [])
-no_edit [] x e = cc
-no_edit (y ∷ xs) x e = cc
-
-same_last : {A : Type 0} (xs ys : List A) (x y : A) → xs ++ x ∷ [] ≡ ys ++ y ∷ [] → (xs ≡ ys) × (x ≡ y)
-same_last [] [] x y e = (refl, cc)
-same_last [] (b ∷ []) x y e = cc
-same_last [] (b ∷ c ∷ ys) x y e = cc
-same_last (a ∷ []) [] x y e = cc
-same_last (a ∷ b ∷ xs) [] x y e = cc
-same_last (a ∷ xs) (b ∷ ys) x y e =
-    let rest : xs ++ x ∷ [] ≡ ys ++ y ∷ [] = cc in
-    let first : a ≡ b = cc in
-    let (fronts, lasts) = same_last xs ys x y rest in
-    (ap₂ (λ u v. u ∷ v) first fronts, lasts)
-
 -- no edit is made yet
 pub none_last : (profile : Profile) (read : Read) (tree : Tree) → HoldsLast profile read [] tree tree
-none_last profile read tree front c is = absurd (no_edit front c (sym is))
+none_last profile read tree front c is = absurd (no_end front c [] is)
 
 written_more : (profile : Profile) (cs : List Change) (c : Change) (manner : Manner) (before mid after : List ℕ) (edits : AreWritten profile cs manner before mid)
     → IsWritten profile c (last_manner profile cs manner before mid edits) mid after → AreWritten profile (cs ++ c ∷ []) manner before after
@@ -306,7 +292,7 @@ more_made profile read cs c old tree new all makes text kinds now at lead plain 
 pub last_made : (profile : Profile) (read : Read) (cs : List Change) (c : Change) (old mid new : Tree) → MakesAll profile read cs old mid
     → HoldsOne profile read c mid new → HoldsLast profile read (cs ++ c ∷ []) old new
 last_made profile read cs c old mid new makes one front d is text kinds now last at lead is_after plain between written e spells there =
-    let (fronts, edits) = same_last cs front c d is in
+    let (fronts, edits) = same_from_push cs front c d is in
     let all = makes text kinds now at (subst (λ es. Lead profile es kinds now) (sym fronts) lead)
     (subst (λ es. ArePlain profile es (manner old) text) (sym fronts) plain) in
     let text_is : all.after ≡ between = one_list_written profile cs (manner old) text all.after between all.written

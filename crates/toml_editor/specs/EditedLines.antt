@@ -1,5 +1,5 @@
 -- The text after one plain edit.
-use Rattle.std.specs.Prelude.{◌≡◌, ◌&&◌, false, not, ℕ, Bool, List, ◌++◌}
+use Rattle.std.specs.Prelude.{◌≡◌, ◌&&◌, false, not, ℕ, List, ◌++◌}
 use Rattle.std.specs.List.{list_any}
 use Rattle.toml_tree.specs.Profiles.{SpellsIn, IsValueIn}
 use Rattle.toml_tree.specs.Spells.{joined, lines_parts}

@@ -6,7 +6,7 @@ pub mod Making
 pub mod Editing
 pub mod SpelledEdits
 -- the laws of what a plain edit writes
-pub mod HeadersInTurn
+pub mod HeaderLaws
 pub mod Held
 pub mod SetLaws
 pub mod Blocks

@@ -6,6 +6,7 @@ ghost use Rattle.toml_editor.specs.CertifiedLists.{PartnersCertify, OuterAreName
 ghost use Rattle.toml_editor.specs.ChangedUnits.{SetUnits};
 ghost use Rattle.toml_editor.specs.PlainAnswers.{FirstFaultIsAnswered, FirstSpreadIsAnswered, LongIsAnswered, PlainIsAnswered};
 ghost use Rattle.toml_editor.specs.LastTexts.{OneChange};
+ghost use Rattle.toml_editor.specs.HeaderLaws.{ElementNames, ElementStands, HeaderIsTaken, SectionNames, SectionStands};
 ghost use Rattle.toml_editor.specs.InsertLaws.{InsertNames, InsertRules, InsertShort, InsertData, InsertForms, InsertOfProfile, InsertKeepsLines};
 ghost use Rattle.toml_editor.specs.RemoveLaws.{EmptyNames, RemoveNames, RemoveGood, RemoveData, RemoveForms, RemoveOfProfile, RemoveKeepsLines};
 ghost use Rattle.toml_editor.specs.RenameLaws.{RenameNames, RenameGood, RenameData, RenameForms, RenameOfProfile, RenameKeepsLine};
@@ -40,6 +41,17 @@ pub fn inserts()
     ensures short { InsertShort }
     ensures data { InsertData }
     ensures forms { InsertForms }
+{}
+
+/// After a `section` without a fault, of a table that stands in no value, the lines name what they named, and what the new header
+/// names; so do they after an `element`, of an array that stands in none. By what finds them they are what the working tree makes of
+/// the lines before. It takes a header line of each document.
+pub fn headers()
+    ensures section_names { SectionNames }
+    ensures element_names { ElementNames }
+    ensures section_stands { SectionStands }
+    ensures element_stands { ElementStands }
+    ensures taken { HeaderIsTaken }
 {}
 
 /// After a `remove` of a value of a line the lines name what they named, without what that line names; where the table right above

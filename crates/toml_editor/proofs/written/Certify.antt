@@ -67,7 +67,7 @@ outer_partners_certify cs profile manner before after old now newline within sti
 
 -- ---- the text
 
-pub list_is_written : (cs : List Change) (profile : Profile) (manner : Manner) (before : List ℕ) (old now : Kinds) → IsNewline manner.newline
+list_is_written : (cs : List Change) (profile : Profile) (manner : Manner) (before : List ℕ) (old now : Kinds) → IsNewline manner.newline
     → IsGoodText profile before old → Lead profile cs old now → ArePlain profile cs manner before
     → (after : List ℕ) × AreWritten profile cs manner before after
 list_is_written [] profile manner before old now newline good lead plain = (before, refl)

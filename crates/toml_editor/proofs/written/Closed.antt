@@ -34,7 +34,8 @@ closed_append at ms ns first second x y here a b = elim (has_parts (λ m. m.addr
   | inr h ↦ has_append_right (λ m. m.address ≡ x) ms ns (second x y h a b)
 ]
 
-no_end : (r : Address) (s : Step) (more : Address) → ¬ ([] ≡ r ++ s ∷ more)
+-- what has something at its end is not empty
+pub no_end : {A : Type 0} (r : List A) (s : A) (more : List A) → ¬ ([] ≡ r ++ s ∷ more)
 no_end [] s more is = cc
 no_end (t ∷ r) s more is = cc
 

@@ -15,6 +15,7 @@ use Rattle.toml_names.specs.reader.Names.{header_end, own_address}
 use Rattle.toml_names.proofs.Proved.{count-append, header_is_section, pairs_leave_alike}
 use Rattle.toml_editor.proofs.written.Alike.{adds, count_cons, section_pair}
 use Rattle.toml_editor.proofs.written.Clear.{above_apart, below-cons, differ, self}
+use Rattle.toml_editor.proofs.written.Closed.{no_end}
 use Rattle.toml_editor.proofs.written.DocumentSections.{named_next}
 use Rattle.toml_editor.proofs.written.InsertPlace.{IsHeadless}
 
@@ -32,6 +33,7 @@ adds_none r m plain = by (same_address m.address r)
     by true = ap one_if plain
     by false = refl
 
+-- so it may be left out
 pub count_none : (r : Address) (m : Named) (ms : List Named) → is_tables m.role ≡ false → count_tables (m ∷ ms) r ≡ count_tables ms r
 count_none r m ms plain = let e = adds_none r m plain in omega (arith, e, count_cons m ms r)
 
@@ -109,41 +111,26 @@ counts_stay before (l ∷ between) r heads =
 
 -- ---- the steps of an address with one step more
 
--- what has a step is not the root
-pub no_cons : (r : Address) (t : Step) (rest : Address) → ¬ ([] ≡ r ++ t ∷ rest)
-no_cons [] t rest is = cc
-no_cons (s ∷ r) t rest is = cc
-
 -- a step in it is the last one, or is in the address
-pub last_step : (at r : Address) (s t : Step) (rest : Address) → at ++ s ∷ [] ≡ r ++ t ∷ rest
+pub last_or_earlier : (at r : Address) (s t : Step) (rest : Address) → at ++ s ∷ [] ≡ r ++ t ∷ rest
     → ((at ≡ r) × (s ≡ t)) ⊎ ((more : Address) × (at ≡ r ++ t ∷ more))
-last_step [] [] s t rest is = let e : s ≡ t = cc in inl (refl, e)
-last_step [] (u ∷ r) s t rest is = let tail : ◌≡◌ {A = Address} [] (r ++ t ∷ rest) = cc in absurd (no_cons r t rest tail)
-last_step (v ∷ at) [] s t rest is = let e : v ≡ t = cc in inr (at, ap (λ u. u ∷ at) e)
-last_step (v ∷ at) (u ∷ r) s t rest is =
+last_or_earlier [] [] s t rest is = let e : s ≡ t = cc in inl (refl, e)
+last_or_earlier [] (u ∷ r) s t rest is = let tail : ◌≡◌ {A = Address} [] (r ++ t ∷ rest) = cc in absurd (no_end r t rest tail)
+last_or_earlier (v ∷ at) [] s t rest is = let e : v ≡ t = cc in inr (at, ap (λ u. u ∷ at) e)
+last_or_earlier (v ∷ at) (u ∷ r) s t rest is =
     let e : v ≡ u = cc in
     let tail : at ++ s ∷ [] ≡ r ++ t ∷ rest = cc in
-    elim (last_step at r s t rest tail) [
+    elim (last_or_earlier at r s t rest tail) [
       | inl here ↦ inl (ap (λ x. x ∷ at) e ∙ ap (λ x. u ∷ x) here.0, here.1)
       | inr there ↦ inr (there.0, ap (λ x. x ∷ at) e ∙ ap (λ x. u ∷ x) there.1)
     ]
-
--- of two addresses with one step more the last steps are the same
-pub same_last : (at r : Address) (s t : Step) → at ++ s ∷ [] ≡ r ++ t ∷ [] → (at ≡ r) × (s ≡ t)
-same_last [] [] s t is = let e : s ≡ t = cc in (refl, e)
-same_last [] (u ∷ r) s t is = let tail : ◌≡◌ {A = Address} [] (r ++ t ∷ []) = cc in absurd (no_cons r t [] tail)
-same_last (v ∷ at) [] s t is = let tail : ◌≡◌ {A = Address} [] (at ++ s ∷ []) = cc in absurd (no_cons at s [] tail)
-same_last (v ∷ at) (u ∷ r) s t is =
-    let e : v ≡ u = cc in
-    let tail : at ++ s ∷ [] ≡ r ++ t ∷ [] = cc in
-    let more = same_last at r s t tail in (ap (λ x. x ∷ at) e ∙ ap (λ x. u ∷ x) more.0, more.1)
 
 -- names add no index
 pub names_last : (names : Key) (at r rest : Address) (i : ℕ) → below at names ≡ r ++ Index i ∷ rest → (more : Address) × (at ≡ r ++ Index i ∷ more)
 names_last [] at r rest i is = (rest, sym (append-nil at) ∙ is)
 names_last (n ∷ names) at r rest i is =
     let inner = names_last names (child at n) r rest i (below-cons at n names ∙ is) in
-    elim (last_step at r (Name n) (Index i) inner.0 inner.1) [
+    elim (last_or_earlier at r (Name n) (Index i) inner.0 inner.1) [
       | inl here ↦ absurd (let is = here.1 in cc)
       | inr there ↦ there
     ]
@@ -156,7 +143,7 @@ module _ (xs : List Named) where
   AreLast at = (r rest : Address) (i : ℕ) → at ≡ r ++ Index i ∷ rest → count_tables xs r ≡ i + 1
 
   pub last_root : AreLast []
-  last_root r rest i is = absurd (no_cons r (Index i) rest is)
+  last_root r rest i is = absurd (no_end r (Index i) rest is)
 
   -- the steps of a header's key keep it so
   pub last_child : (at : Address) (n : List ℕ) → AreLast at → AreLast (child at n)
@@ -169,7 +156,7 @@ module _ (xs : List Named) where
     where
       by : (b : Bool) → (count_tables xs at == 0) ≡ b → AreLast (cond b at (element at (count_tables xs at - 1)))
       by true none = are
-      by false some = λ r rest i is. elim (last_step at r (Index (count_tables xs at - 1)) (Index i) rest is) [
+      by false some = λ r rest i is. elim (last_or_earlier at r (Index (count_tables xs at - 1)) (Index i) rest is) [
         | inl here ↦
             let same : count_tables xs at ≡ count_tables xs r = ap (count_tables xs) here.0 in
             let index_is = here.1 in
@@ -207,7 +194,7 @@ module _ (before : List Line) (l : Line) where
     array_counted : named_by xs (length before) l.expr ≡ followed (length before) xs (ends_tables (length before) xs) [] (n ∷ key)
         → IsCounted (element (header_end xs [] (n ∷ key)) (count_tables xs (header_end xs [] (n ∷ key))))
     array_counted names r rest i is =
-        elim (last_step (header_end xs [] (n ∷ key)) r (Index (count_tables xs (header_end xs [] (n ∷ key)))) (Index i) rest is) [
+        elim (last_or_earlier (header_end xs [] (n ∷ key)) r (Index (count_tables xs (header_end xs [] (n ∷ key)))) (Index i) rest is) [
           | inl here ↦
               let index_is = here.1 in
               let index : count_tables xs (header_end xs [] (n ∷ key)) ≡ i = cc in
@@ -273,7 +260,7 @@ section_on [] before are = subst (λ bs. AreLast (named bs) (section (named bs))
 section_on (l ∷ ls) before are =
     subst (λ bs. AreLast (named bs) (section (named bs))) (append_assoc before (l ∷ []) ls) (section_on ls (before ++ l ∷ []) (section_next before l are))
 
-pub section_counts : (before : List Line) → AreLast (named before) (section (named before))
+section_counts : (before : List Line) → AreLast (named before) (section (named before))
 section_counts before = section_on before [] (last_root (root ∷ []))
 
 -- An index in the address of what a line stands for is that of the last table which the array has behind the line.

@@ -1,6 +1,6 @@
 -- Behind lists in which each array of tables has as many tables, but for arrays that the lines do not see, lines without keys of their own
 -- sections stand alike.
-use Rattle.std.proofs.Common.{◌≡◌, ◌⊎◌, inl, inr, ℕ, ◌+◌, true, false, Option, Some, List, [], ◌∷◌, ◌++◌, length, refl, sym, ap, ap₂, ◌∙◌, true≢false, append-nil}
+use Rattle.std.proofs.Common.{◌≡◌, ◌⊎◌, inl, inr, ℕ, ◌+◌, false, Option, Some, List, [], ◌∷◌, ◌++◌, length, refl, sym, ap, ap₂, ◌∙◌, true≢false, append-nil}
 use Rattle.std.specs.List.{list_any}
 use Rattle.std.specs.Prelude.{◌==◌, ◌-◌, if◌then◌else◌}
 use Rattle.std.proofs.lemmas.Bool.{or_parts}
@@ -14,26 +14,21 @@ use Rattle.toml_names.specs.model.Addresses.{Address, below, child, element}
 use Rattle.toml_names.specs.reader.Names.{header_end, own_address}
 use Rattle.toml_names.proofs.Proved.{count-append, pairs_leave_alike, section_from-append}
 use Rattle.toml_units.specs.Units.{line_base}
-use Rattle.toml_layout.specs.Beginnings.{begins}
 use Rattle.toml_layout.specs.TreeOutlines.{line_outline}
 use Rattle.toml_working.specs.Inserting.{has_pair}
 use Rattle.toml_working.specs.Standing.{Standing, is_below, lies_below, line_stands, standing_from}
 use Rattle.toml_editor.proofs.written.Alike.{alike_self, section_pair}
 use Rattle.toml_editor.proofs.written.Clear.{IsUnder}
-use Rattle.toml_editor.proofs.written.DocumentSections.{begins_longer}
 use Rattle.toml_editor.proofs.written.EmptyAlone.{first_under, under_trans}
+use Rattle.toml_editor.proofs.written.TablesStay.{under_begins}
 use Rattle.toml_editor.proofs.written.UnitsAlike.{step_alike}
 
 -- each array of tables has as many tables in both, or else it is not seen
 abbrev pub AreCountedBut : (Address → Type 0) → List Named → List Named → Type 0
 AreCountedBut Unseen xs ys = (at : Address) → Unseen at ⊎ (count_tables xs at ≡ count_tables ys at)
 
--- what lies at an address or below it begins with it
-pub under_begins : (q a : Address) → IsUnder q a → begins q a ≡ true
-under_begins q a (rest, is) = ap (begins q) is ∙ begins_longer q rest
-
 -- by a line of this address: it stands neither at the array nor below it
-abbrev pub IsUnseen : Option Address → Address → Type 0
+abbrev IsUnseen : Option Address → Address → Type 0
 IsUnseen own at = lies_below at own ≡ false
 
 -- by lines
@@ -79,7 +74,7 @@ module _ (xs ys : List Named) (own : Address) (same : AreCountedBut (IsUnseen (S
       tables n = record { address = at; role = Tables; kind = an_array; line = line } ∷ table_at line Element (element at n) ∷ []
 
 -- a header names the same, and stands at the same address
-pub header_named : (xs ys : List Named) (line : ℕ) (e : Expr) → IsHeaderLine e → AreCountedBut (IsUnseen (own_address xs e)) xs ys
+header_named : (xs ys : List Named) (line : ℕ) (e : Expr) → IsHeaderLine e → AreCountedBut (IsUnseen (own_address xs e)) xs ys
     → named_by xs line e ≡ named_by ys line e
 header_named xs ys line (BlankLine b) is same = absurd is
 header_named xs ys line (KeyValLine ws pair tail) is same = absurd is
@@ -93,7 +88,7 @@ header_named xs ys line (ArrayTableLine ws h tail) is same =
     followed_same xs ys own same line (ends_tables line xs) (ends_tables line ys) (tables_same xs ys own same line) (part_name h.key.first)
     (rest_names h.key.rest) [] (Index (count_tables xs at) ∷ [], refl)
 
-pub header_owned : (xs ys : List Named) (e : Expr) → IsHeaderLine e → AreCountedBut (IsUnseen (own_address xs e)) xs ys → own_address xs e ≡ own_address ys e
+header_owned : (xs ys : List Named) (e : Expr) → IsHeaderLine e → AreCountedBut (IsUnseen (own_address xs e)) xs ys → own_address xs e ≡ own_address ys e
 header_owned xs ys (BlankLine b) is same = absurd is
 header_owned xs ys (KeyValLine ws pair tail) is same = absurd is
 header_owned xs ys (TableLine ws h tail) is same =
@@ -152,6 +147,7 @@ module _ (xs ys : List Named) (n m : ℕ) (ls : List Line) where
             ∙ numbers.counts at;
       }
 
+  -- so is any line, where it is alike before it
   pub line_alike : (e : Expr) (newline : Piece) → IsSameSection xs ys (record { expr = e; newline = newline } ∷ ls) → AreCountedBut (IsUnseen (own_address xs e)) xs ys
       → IsAlike xs ys n m e ls
   line_alike (BlankLine b) newline sections same = record {
@@ -199,6 +195,7 @@ stand_same (l ∷ ls) xs ys n m sections same =
       ]),
     )
 
+-- then the same stands on them
 pub standing_same : (ls : List Line) (xs ys : List Named) (n m : ℕ) → StandSame ls xs ys n m → standing_from xs n ls ≡ standing_from ys m ls
 standing_same [] xs ys n m same = refl
 standing_same (l ∷ ls) xs ys n m same =

@@ -1,17 +1,16 @@
 -- Where the arrays of tables stand that what is named counts.
-use Rattle.std.proofs.Common.{◌≡◌, ◌∙◌, inl, inr, ℕ, zero, suc, ◌+◌, ◌-◌, ◌==◌, Bool, true, false, cond, Some, List, [], ◌∷◌, ◌++◌, refl, sym, ap, subst, arith}
-use Rattle.std.proofs.lemmas.Bool.Decides.{nat_tests}
-use Rattle.std.proofs.lemmas.Option.{same_Some}
+use Rattle.std.proofs.Common.{◌≡◌, ◌∙◌, inl, inr, ℕ, zero, suc, ◌+◌, Bool, true, false, List, [], ◌∷◌, ◌++◌, refl, ap, subst, arith}
+use Rattle.std.proofs.lemmas.List.{same_from_push}
 use Rattle.toml_tree.specs.Tree.{Expr, BlankLine, KeyValLine, TableLine, ArrayTableLine, Line}
 use Rattle.toml_names.specs.declared.model.address.Step.TheVariants.{Name, Index}
 use Rattle.toml_names.specs.mentions.Keys.{Key, part_name, rest_names}
 use Rattle.toml_names.specs.mentions.Mentions.{Named, an_array, count_tables, ends_tables, entered, followed, named, named_by, named_from, root, section}
-use Rattle.toml_names.specs.mentions.OwnAddresses.{IsHeaderLine}
 use Rattle.toml_names.specs.model.Addresses.{Address, child, element, same_address}
-use Rattle.toml_names.specs.reader.Names.{header_end, own_address}
+use Rattle.toml_names.specs.reader.Names.{header_end}
 use Rattle.toml_names.proofs.Proved.{count-append}
 use Rattle.toml_editor.proofs.written.Clear.{same_is}
-use Rattle.toml_editor.proofs.written.Counted.{count_array, count_none, count_pair, count_table, last_step, no_cons, one_if, same_last}
+use Rattle.toml_editor.proofs.written.Closed.{no_end}
+use Rattle.toml_editor.proofs.written.Counted.{count_array, count_none, count_pair, count_table, one_if}
 use Rattle.toml_editor.proofs.written.Pairwise.{Has, has_append_left, has_append_right}
 
 -- ---- where arrays of tables stand
@@ -25,7 +24,7 @@ pub end_named : (xs : List Named) (key : Key) (n : List ℕ) (at : Address) → 
 end_named xs [] n at = (at, n, refl)
 end_named xs (m ∷ more) n at = end_named xs more m (entered xs (child at n))
 
-abbrev pub IsArrayAt : Address → Named → Type 0
+abbrev IsArrayAt : Address → Named → Type 0
 IsArrayAt r m = (m.address ≡ r) × (m.kind ≡ an_array)
 
 -- what counts for an address is an array there, and the address ends in a name
@@ -88,68 +87,9 @@ count_unnamed lines r not = by (count_tables (named lines) r) refl
     by zero none = none
     by (suc k) is = absurd (not (counted_arrays lines r (λ no. absurd (omega (arith, is, no)))).0)
 
+-- the address of an element ends in no name, nor does that of the root
 pub element_unnamed : (at : Address) (i : ℕ) → ¬ IsNamedLast (element at i)
-element_unnamed at i (u, n, is) = let same = (same_last at u (Index i) (Name n) is).1 in cc
+element_unnamed at i (u, n, is) = let same = (same_from_push at u (Index i) (Name n) is).1 in cc
 
 pub root_unnamed : ¬ IsNamedLast []
-root_unnamed (u, n, is) = no_cons u (Name n) [] is
-
--- ---- the names in the address of a header
-
-module _ (lines : List Line) where
-  abbrev xs : List Named
-  xs = named lines
-
-  -- what a name follows is no array of tables
-  abbrev AreTables : Address → Type 0
-  AreTables at = (r rest : Address) (n : List ℕ) → at ≡ r ++ Name n ∷ rest → count_tables xs r ≡ 0
-
-  -- it is so of each address along a header's key
-  tables_root : AreTables []
-  tables_root r rest n is = absurd (no_cons r (Name n) rest is)
-
-  tables_child : (at : Address) (n : List ℕ) → count_tables xs at ≡ 0 → AreTables at → AreTables (child at n)
-  tables_child at n here are r rest m is = elim (last_step at r (Name n) (Name m) rest is) [
-    | inl same ↦ sym (ap (count_tables xs) same.0) ∙ here
-    | inr more ↦ are r more.0 m more.1
-  ]
-
-  tables_element : (at : Address) (i : ℕ) → AreTables at → AreTables (element at i)
-  tables_element at i are r rest m is = elim (last_step at r (Index i) (Name m) rest is) [
-    | inl same ↦ absurd (let e = same.1 in cc)
-    | inr more ↦ are r more.0 m more.1
-  ]
-
-  tables_entered : (at : Address) → AreTables at → AreTables (entered xs at) × (count_tables xs (entered xs at) ≡ 0)
-  tables_entered at are = by (count_tables xs at == 0) refl
-    where
-      by : (b : Bool) → (count_tables xs at == 0) ≡ b
-          → AreTables (cond b at (element at (count_tables xs at - 1))) × (count_tables xs (cond b at (element at (count_tables xs at - 1))) ≡ 0)
-      by true none = (are, (let e : count_tables xs at ≡ 0 = grind (arith, nat_tests, none) in e))
-      by false some =
-          let last = count_tables xs at - 1 in (tables_element at last are, count_unnamed lines (element at last) (element_unnamed at last))
-
-  tables_end : (key : Key) (n : List ℕ) (at : Address) → count_tables xs at ≡ 0 → AreTables at → AreTables (header_end xs at (n ∷ key))
-  tables_end [] n at here are = tables_child at n here are
-  tables_end (m ∷ more) n at here are =
-      let next = tables_entered (child at n) (tables_child at n here are) in
-      tables_end more m (entered xs (child at n)) next.1 next.0
-
-  tables_of : (key : Key) (n : List ℕ) → AreTables (header_end xs [] (n ∷ key))
-  tables_of key n = tables_end key n [] (count_unnamed lines [] root_unnamed) tables_root
-
--- Where the address of a header goes on with a name, no array of tables stood before its line.
-pub own_is_no_array : (before : List Line) (l : Line) (a r rest : Address) (n : List ℕ) → own_address (named before) l.expr ≡ Some a → IsHeaderLine l.expr
-    → a ≡ r ++ Name n ∷ rest → ¬ (r ≡ []) → count_tables (named before) r ≡ 0
-own_is_no_array before l a r rest n own header is some = by l.expr header own
-  where
-    xs : List Named
-    xs = named before
-
-    by : (e : Expr) → IsHeaderLine e → own_address xs e ≡ Some a → count_tables xs r ≡ 0
-    by (BlankLine b) head here = absurd head
-    by (KeyValLine ws pair tail) head here = absurd head
-    by (TableLine ws h tail) head here = tables_of before (rest_names h.key.rest) (part_name h.key.first) r rest n (same_Some _ a here ∙ is)
-    by (ArrayTableLine ws h tail) head here =
-        let at = header_end xs [] (part_name h.key.first ∷ rest_names h.key.rest) in
-        tables_element before at (count_tables xs at) (tables_of before (rest_names h.key.rest) (part_name h.key.first)) r rest n (same_Some _ a here ∙ is)
+root_unnamed (u, n, is) = no_end u (Name n) [] is

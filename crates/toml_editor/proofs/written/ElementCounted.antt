@@ -1,5 +1,6 @@
 -- How many tables an array of tables has by the data, and that the key of the header line of its next element leads to that.
 use Rattle.std.proofs.Common.{◌≡◌, ◌∙◌, ◌⊎◌, inl, inr, ℕ, zero, suc, ◌+◌, ◌<◌, ◌≤◌, Bool, true, false, ◌||◌, Some, None, IsSome, List, [], ◌∷◌, ◌++◌, length, length-append, refl, sym, ap, ap₂, subst, true≢false, append-nil, append_assoc, arith}
+use Rattle.std.proofs.lemmas.List.{same_from_push}
 use Rattle.std.specs.Bool.{nat_lt}
 use Rattle.std.specs.List.{list_any}
 use Rattle.std.proofs.lemmas.Bool.Decides.{nat_tests}
@@ -24,30 +25,24 @@ use Rattle.toml_working.specs.Headers.{has_below}
 use Rattle.toml_working.specs.Removing.{no_blank}
 use Rattle.toml_working.specs.Seeing.{is_sought_line}
 use Rattle.toml_working.specs.Standing.{Standing, holds, is_below, leads_to, lies_below, standing, standing_from}
-use Rattle.toml_editor.proofs.written.Clear.{IsUnder, below-cons, same_is}
-use Rattle.toml_editor.proofs.written.Counted.{AreLast, count_array, count_next, count_none, count_pair, count_table, counts_grow, last_step, one_if, own_counts, same_last}
+use Rattle.toml_editor.proofs.written.Clear.{below-cons, same_is}
+use Rattle.toml_editor.proofs.written.Counted.{AreLast, count_array, count_next, count_none, count_pair, count_table, counts_grow, last_or_earlier, one_if, own_counts}
 use Rattle.toml_editor.proofs.written.CountedArrays.{IsNamedLast, element_unnamed, followed_has}
-use Rattle.toml_editor.proofs.written.DocumentSections.{begins_longer, line_of, named_next}
+use Rattle.toml_editor.proofs.written.DocumentSections.{line_of, named_next}
 use Rattle.toml_editor.proofs.written.ElementHeaded.{some_named, unheaded_unnamed}
 use Rattle.toml_editor.proofs.written.EmptyAlone.{not_any}
-use Rattle.toml_editor.proofs.written.HeaderLeads.{leads}
+use Rattle.toml_editor.proofs.written.HeaderLeads.{IsNamedAt, leads}
 use Rattle.toml_editor.proofs.written.HeaderPlace.{below_is}
 use Rattle.toml_editor.proofs.written.HeaderPut.{IsApart}
 use Rattle.toml_editor.proofs.written.OneSection.{among_of}
 use Rattle.toml_editor.proofs.written.Pairwise.{Has, any_of_has, has_append_left, has_append_right}
-use Rattle.toml_editor.proofs.written.SectionFacts.{IsNextElement}
+use Rattle.toml_editor.proofs.written.HeaderFacts.{IsNextElement}
 use Rattle.toml_editor.proofs.written.SectionNamed.{names_of_element}
 use Rattle.toml_editor.proofs.written.StandingOrder.{begins_is}
-
--- what lies at an address or below it begins with it
-pub under_begins : (q a : Address) → IsUnder q a → begins q a ≡ true
-under_begins q a (rest, is) = ap (begins q) is ∙ begins_longer q rest
-
-abbrev IsAt : Address → Named → Type 0
-IsAt at m = m.address ≡ at
+use Rattle.toml_editor.proofs.written.TablesStay.{under_begins}
 
 -- what is named somewhere is of some kind
-has_kind : (ms : List Named) (a : Address) → Has (IsAt a) ms → (k : Kind) × Has (λ m. (m.address ≡ a) × (m.kind ≡ k)) ms
+has_kind : (ms : List Named) (a : Address) → Has (IsNamedAt a) ms → (k : Kind) × Has (λ m. (m.address ≡ a) × (m.kind ≡ k)) ms
 has_kind [] a has = absurd has
 has_kind (m ∷ ms) a (inl at) = (m.kind, inl (at, refl))
 has_kind (m ∷ ms) a (inr more) = let (k, there) = has_kind ms a more in (k, inr there)
@@ -56,11 +51,11 @@ module _ (q : Address) where
   -- ---- the elements that are counted are named
 
   abbrev AreElements : List Named → Type 0
-  AreElements xs = (j : ℕ) → j < count_tables xs q → Has (IsAt (element q j)) xs
+  AreElements xs = (j : ℕ) → j < count_tables xs q → Has (IsNamedAt (element q j)) xs
 
   -- a line that counts for the array names one element, the next
   line_element : (xs : List Named) (line : ℕ) (e : Expr) → ¬ (count_tables (named_by xs line e) q ≡ 0)
-      → (count_tables (named_by xs line e) q ≡ 1) × Has (IsAt (element q (count_tables xs q))) (named_by xs line e)
+      → (count_tables (named_by xs line e) q ≡ 1) × Has (IsNamedAt (element q (count_tables xs q))) (named_by xs line e)
   line_element xs line (BlankLine b) some = absurd (some refl)
   line_element xs line (KeyValLine ws pair tail) some = absurd (some (count_pair line (section xs) pair.assign pair.value q))
   line_element xs line (TableLine ws header tail) some = absurd (some (count_table xs line q (part_name header.key.first) (rest_names header.key.rest)))
@@ -74,11 +69,11 @@ module _ (q : Address) where
 
       by : (b : Bool) → same_address at q ≡ b
           → (count_tables (named_by xs line (ArrayTableLine ws header tail)) q ≡ 1)
-          × Has (IsAt (element q (count_tables xs q))) (named_by xs line (ArrayTableLine ws header tail))
+          × Has (IsNamedAt (element q (count_tables xs q))) (named_by xs line (ArrayTableLine ws header tail))
       by true same =
           let one : element at (count_tables xs at) ≡ element q (count_tables xs q) = ap (λ x. element x (count_tables xs x)) (same_is at q same) in (
             counted ∙ ap one_if same,
-            followed_has (IsAt (element q (count_tables xs q))) xs line (ends_tables line xs) (rest_names header.key.rest) (part_name header.key.first) []
+            followed_has (IsNamedAt (element q (count_tables xs q))) xs line (ends_tables line xs) (rest_names header.key.rest) (part_name header.key.first) []
                 (inr (inl one)),
           )
       by false other = absurd (some (counted ∙ ap one_if other))
@@ -89,16 +84,17 @@ module _ (q : Address) where
       all : count_tables (xs ++ named_by xs line e) q ≡ count_tables xs q + count_tables (named_by xs line e) q
       all = count-append xs (named_by xs line e) q
 
-      in_front : j < count_tables xs q → Has (IsAt (element q j)) (xs ++ named_by xs line e)
-      in_front lower = has_append_left (IsAt (element q j)) xs (named_by xs line e) (are j lower)
+      in_front : j < count_tables xs q → Has (IsNamedAt (element q j)) (xs ++ named_by xs line e)
+      in_front lower = has_append_left (IsNamedAt (element q j)) xs (named_by xs line e) (are j lower)
 
-      by : (k : ℕ) → count_tables (named_by xs line e) q ≡ k → Has (IsAt (element q j)) (xs ++ named_by xs line e)
+      by : (k : ℕ) → count_tables (named_by xs line e) q ≡ k → Has (IsNamedAt (element q j)) (xs ++ named_by xs line e)
       by zero none = in_front (omega (arith, all, none, low))
       by (suc k) is =
           let one = line_element xs line e (λ no. absurd (omega (arith, is, no))) in
           elim (split j (count_tables xs q) (let two = one.0 in omega (arith, all, two, low))) [
             | inl lower ↦ in_front lower
-            | inr here ↦ has_append_right (IsAt (element q j)) xs (named_by xs line e) (subst (λ c. Has (IsAt (element q c)) (named_by xs line e)) (sym here) one.1)
+            | inr here ↦ has_append_right (IsNamedAt (element q j)) xs (named_by xs line e)
+                (subst (λ c. Has (IsNamedAt (element q c)) (named_by xs line e)) (sym here) one.1)
           ]
         where
           split : (x y : ℕ) → x < y + 1 → (x < y) ⊎ (x ≡ y)
@@ -170,7 +166,7 @@ module _ (q : Address) where
       by false is = is
       by true is = absurd (elim (begins_is a (element q j) is) [
         | inl same ↦ element_unnamed q j (subst IsNamedLast same (named_below (rest_names pair.assign.key.rest) (part_name pair.assign.key.first) (section xs)))
-        | inr above ↦ elim (last_step q a (Index j) above.0 above.1 above.2) [
+        | inr above ↦ elim (last_or_earlier q a (Index j) above.0 above.1 above.2) [
           | inl here ↦ true≢false (sym (under_begins a q ([], here.0 ∙ sym (append-nil a))) ∙ none)
           | inr more ↦ true≢false (sym (under_begins a q (above.0 ∷ more.0, more.1)) ∙ none)
         ]
@@ -255,7 +251,7 @@ element_leads lines front back r n i ws kinds parts keeps facts table last count
 pub apart_element : (q : Address) (i : ℕ) (front back : List Line) → list_any (is_below q) (standing_from (named front) (length front) back) ≡ false
     → IsApart Two (element q i) front back
 apart_element q i front back none a j is =
-    subst (λ x. list_any (is_below x) (standing_from (named front) (length front) back) ≡ false) (same_last q a (Index i) (Index j) is).0 none
+    subst (λ x. list_any (is_below x) (standing_from (named front) (length front) back) ≡ false) (same_from_push q a (Index i) (Index j) is).0 none
 
 module _ (q : Address) (i : ℕ) (lines : List Line) (kinds : Kinds) (keeps : KeepsRules (named lines)) (facts : IsDataOf (named lines) kinds)
     (next : IsNextElement q i kinds) (outside : list_any (holds q) (standing lines) ≡ false) where
@@ -267,6 +263,7 @@ module _ (q : Address) (i : ℕ) (lines : List Line) (kinds : Kinds) (keeps : Ke
       elements (inl first) j low = absurd (let zero_is = first.1 in omega (arith, zero_is, low))
       elements (inr more) j low = more.1 j low
 
+  -- so does that of the next element
   pub next_leads : (ws : List ℕ) (front back : List Line) → lines ≡ front ++ back → AreLast (named front) q → IsApart Two (element q i) front back
       → own_address (named front) (header_expr Two (element q i) ws) ≡ Some (element q i)
   next_leads ws front back split last apart =

@@ -1,14 +1,13 @@
 -- An element of an array of tables that stands in no value has a header line, or one below it does.
-use Rattle.std.proofs.Common.{◌≡◌, ℕ, ◌<◌, ◌+◌, Bool, true, false, ◌||◌, Option, Some, None, IsSome, List, [], ◌∷◌, ◌++◌, map, length, refl, sym, ap, ◌∙◌, subst, true≢false, append_assoc, arith}
+use Rattle.std.proofs.Common.{◌≡◌, ℕ, ◌+◌, Bool, true, false, ◌||◌, Option, Some, None, IsSome, List, [], ◌∷◌, ◌++◌, length, refl, sym, ap, ◌∙◌, subst, true≢false, append_assoc, arith, length-append}
 use Rattle.std.specs.Bool.{nat_lt}
 use Rattle.std.specs.List.{list_any}
 use Rattle.std.proofs.lemmas.Bool.{and_parts}
-use Rattle.std.proofs.lemmas.Bool.Decides.{nat_tests}
 use Rattle.toml_tree.specs.Spells.{EachIs}
 use Rattle.toml_tree.specs.Tree.{Expr, BlankLine, KeyValLine, TableLine, ArrayTableLine, Line}
 use Rattle.toml_names.specs.declared.model.address.Step.{Step}
 use Rattle.toml_names.specs.declared.model.address.Step.TheVariants.{Index, Name}
-use Rattle.toml_names.specs.mentions.Keys.{Key, key_names}
+use Rattle.toml_names.specs.mentions.Keys.{key_names}
 use Rattle.toml_names.specs.mentions.Mentions.{Kind, Named, a_table, named, named_by, root, section}
 use Rattle.toml_names.specs.mentions.Rules.{KeepsRules}
 use Rattle.toml_names.specs.model.Addresses.{Address, below, is_above}
@@ -23,8 +22,11 @@ use Rattle.toml_working.specs.Headers.{has_below, inner_of, innermost}
 use Rattle.toml_working.specs.Seeing.{heads_below, is_dotted, is_sought_line}
 use Rattle.toml_working.specs.Standing.{Standing, holds, leads_to, standing, standing_from}
 use Rattle.toml_editor.proofs.written.Alike.{alike_self}
+use Rattle.toml_editor.proofs.written.Closed.{no_end}
+use Rattle.toml_editor.proofs.written.Counted.{names_last}
 use Rattle.toml_editor.proofs.written.DocumentSections.{begins_longer}
 use Rattle.toml_editor.proofs.written.EmptyAlone.{IsAway, NotThere, lines_away, not_any}
+use Rattle.toml_editor.proofs.written.HeadersAlone.{lower}
 use Rattle.toml_editor.proofs.written.Pairwise.{Has, from_has, has_of_any, has_weaker}
 use Rattle.toml_editor.proofs.written.Plain.{behind, plain_is}
 use Rattle.toml_editor.proofs.written.TablesStay.{begins_under}
@@ -57,6 +59,7 @@ pub record IsInner (q e : Address) : Type 0 where
   pub rest : Address
   pub front : q ≡ e ++ rest
 
+-- the innermost element of an address, if it has one
 pub inner_is : (q e : Address) → innermost q ≡ Some e → IsInner q e
 inner_is [] e is = cc
 inner_is (s ∷ q) e is = by (innermost q) refl s (λ f found. inner_is q f found) is
@@ -80,21 +83,6 @@ inner_is (s ∷ q) e is = by (innermost q) refl s (λ f found. inner_is q f foun
 
 -- ---- no key names it
 
--- a key adds names alone
-no_index : (s r : Address) (key : Key) (i : ℕ) (t : Step) (rest : Address) → s ++ map Name key ≡ (r ++ Index i ∷ []) ++ t ∷ rest
-    → length s < length (r ++ Index i ∷ []) → ⊥
-no_index [] [] [] i t rest is low = cc
-no_index [] [] (n ∷ key) i t rest is low = cc
-no_index [] (u ∷ r) [] i t rest is low = cc
-no_index [] (u ∷ r) (n ∷ key) i t rest is low =
-    let more : map Name key ≡ (r ++ Index i ∷ []) ++ t ∷ rest = cc in no_index [] r key i t rest more (some r)
-  where
-    some : (x : Address) → 0 < length (x ++ Index i ∷ [])
-    some [] = omega arith
-    some (y ∷ x) = omega arith
-no_index (x ∷ s) [] key i t rest is low = omega (arith, low)
-no_index (x ∷ s) (u ∷ r) key i t rest is low = let more : s ++ map Name key ≡ (r ++ Index i ∷ []) ++ t ∷ rest = cc in no_index s r key i t rest more (omega (arith, low))
-
 module _ (e array : Address) (i : ℕ) (ends : e ≡ array ++ Index i ∷ []) where
   not_dotted : (xs : List Named) (x : Expr) → is_dotted e (line_base xs x) (own_address xs x) ≡ false
   not_dotted xs (BlankLine b) = refl
@@ -108,11 +96,12 @@ module _ (e array : Address) (i : ℕ) (ends : e ≡ array ++ Index i ∷ []) wh
       by true is =
           let (low, above) = and_parts (nat_lt (length (section xs)) (length e)) (is_above e (below (section xs) (key_names pair.assign.key))) is in
           let (t, rest, split) = (above_is_above e (below (section xs) (key_names pair.assign.key))).0 above in
-          absurd (no_index (section xs) array (key_names pair.assign.key) i t rest (split ∙ ap (λ x. x ++ t ∷ rest) ends)
-          (subst (λ x. length (section xs) < length x) ends (lower (length (section xs)) (length e) low)))
-        where
-          lower : (m n : ℕ) → nat_lt m n ≡ true → m < n
-          lower m n h = grind (arith, nat_tests)
+          let (more, below_array) = names_last (key_names pair.assign.key) (section xs) array (t ∷ rest) i
+          (split ∙ ap (λ x. x ++ t ∷ rest) ends ∙ append_assoc array (Index i ∷ []) (t ∷ rest)) in
+          let shorter = lower (length (section xs)) (length e) low in
+          let inner = ap length below_array ∙ length-append array (Index i ∷ more) in
+          let outer = ap length ends ∙ length-append array (Index i ∷ []) in
+          absurd (omega (arith, shorter, inner, outer))
 
   all_away : (ls : List Line) (xs : List Named) (n : ℕ) → EachIs (λ s. holds e s ≡ false) (standing_from xs n ls)
       → EachIs (λ s. is_sought_line sought.HeaderBelow e s ≡ false) (standing_from xs n ls) → EachIs (IsAway e) (standing_from xs n ls)
@@ -126,11 +115,7 @@ module _ (e array : Address) (i : ℕ) (ends : e ≡ array ++ Index i ∷ []) wh
   )
 
   not_root : ¬ ([] ≡ e)
-  not_root is = no_end array (is ∙ ends)
-    where
-      no_end : (a : Address) → ¬ ([] ≡ a ++ Index i ∷ [])
-      no_end [] h = cc
-      no_end (s ∷ a) h = cc
+  not_root is = no_end array (Index i) [] (is ∙ ends)
 
   -- where no line's value holds it, and no header is there or below, it is not named
   pub unheaded_unnamed : (lines : List Line) → list_any (holds e) (standing lines) ≡ false → has_below e (standing lines) ≡ false

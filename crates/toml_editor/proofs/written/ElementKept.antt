@@ -1,11 +1,8 @@
--- What is kept by a new element of an array of tables: the table rules, the bound on addresses, the data, the forms, the profile.
+-- What is kept by a new element of an array of tables: the table rules, the bound on addresses, the data.
 use Rattle.std.proofs.Common.{◌≡◌, ◌⊎◌, inl, inr, ◌≤◌, ℕ, ◌==◌, Bool, true, false, cond, Some, None, List, [], ◌∷◌, ◌++◌, length, length-append, refl, sym, ap, ◌∙◌, subst, append-nil, arith}
 use Rattle.std.specs.List.{list_any}
 use Rattle.std.proofs.lemmas.Bool.Decides.{nat_tests}
 use Rattle.std.proofs.lemmas.Option.{same_Some}
-use Rattle.toml_text.specs.Forms.{IsNewline}
-use Rattle.toml_tree.specs.Profiles.{AreLinesOfProfile}
-use Rattle.toml_tree.specs.Spells.{AreLines}
 use Rattle.toml_tree.specs.Tree.{Line}
 use Rattle.toml_tree.specs.declared.profile.Profile.{Profile}
 use Rattle.toml_names.specs.declared.model.address.Step.TheVariants.{Name, Index}
@@ -21,14 +18,13 @@ use Rattle.toml_working.specs.Headers.{names_of}
 use Rattle.toml_working.specs.Standing.{holds, standing}
 use Rattle.toml_editor.specs.Blocks.{element_block, ends_element}
 use Rattle.toml_editor.proofs.written.Clear.{above_apart}
-use Rattle.toml_editor.proofs.written.ElementNamed.{element_has_names, element_leads, element_named, element_names}
+use Rattle.toml_editor.proofs.written.ElementNamed.{element_has_names, element_leads, element_named, element_is_put}
 use Rattle.toml_editor.proofs.written.HeaderKept.{AreTables, BothGo, IsHeaderBlock, absent_goes, array_goes, header_block, header_moves, header_rules, header_short}
 use Rattle.toml_editor.proofs.written.HeaderLeads.{IsKindAt, fronts_are_tables}
 use Rattle.toml_editor.proofs.written.HeaderPut.{IsHeaderPut}
 use Rattle.toml_editor.proofs.written.Pairwise.{Has}
-use Rattle.toml_editor.proofs.written.SectionFacts.{IsNextElement}
-use Rattle.toml_editor.proofs.written.SectionFormed.{header_forms, header_of_profile}
-use Rattle.toml_editor.proofs.written.SectionNamed.{IsPutThere, follows, put_there}
+use Rattle.toml_editor.proofs.written.HeaderFacts.{IsNextElement}
+use Rattle.toml_editor.proofs.written.SectionNamed.{IsNamedBetween, follows, named_between}
 
 -- the array, or the element
 abbrev IsElementEnd : Address → ℕ → Named → Type 0
@@ -48,8 +44,8 @@ module _ (q : Address) (i : ℕ) (style : List ℕ) (old new : List Line) (put :
       below m (inl at) = ([], at.0 ∙ sym (append-nil q))
       below m (inr at) = (Index i ∷ [], at.0)
 
-  there : IsPutThere (element_block q i) put.front put.back old new
-  there = subst (λ ms. IsPutThere ms put.front put.back old new) (element_named q i style old new put) (put_there Two (element q i) style old new put)
+  there : IsNamedBetween (element_block q i) put.front put.back old new
+  there = subst (λ ms. IsNamedBetween ms put.front put.back old new) (element_named q i style old new put) (named_between Two (element q i) style old new put)
 
 -- what a name follows on the way to the array is a table
 passes_tables : (q : Address) (i : ℕ) (lines : List Line) (kinds : Kinds) → KeepsRules (named lines) → IsDataOf (named lines) kinds → IsNextElement q i kinds
@@ -77,7 +73,7 @@ pub element_short : (q : Address) (i : ℕ) (style : List ℕ) (old new : List L
     → IsShort (named old) → length (element q i) ≤ max_steps → IsShort (named new)
 element_short q i style old new put is low =
     header_short (IsElementEnd q i) (ends_element i) q (named put.front) (element_block q i) old new (block q i style old new put)
-    (element_names q i style old new put) is array_low ends_low
+    (element_is_put q i style old new put) is array_low ends_low
   where
     array_low : length q ≤ max_steps
     array_low = let long = length-append q (Index i ∷ []) in omega (arith, low, long)
@@ -96,7 +92,7 @@ element_data profile q i style old new kinds after put keeps is next is' = (q, i
         → ((r : Address) (k : Kind) → v r ≡ Some k → Has (IsKindAt (base ++ r) k) (ends_element i q)) → Moves Some base v kinds after
     moved base v comes placed =
         header_moves (IsElementEnd q i) (ends_element i) q (named put.front) (element_block q i) old new base v kinds after (block q i style old new put)
-        (element_names q i style old new put) is is' (passes_tables q i old kinds keeps is next) comes placed
+        (element_is_put q i style old new put) is is' (passes_tables q i old kinds keeps is next) comes placed
 
     -- the array comes with it
     made : kinds q ≡ None → i ≡ 0 → AddsElement q (element q i) (kinds q) kinds after
@@ -129,13 +125,3 @@ element_data profile q i style old new kinds after put keeps is next is' = (q, i
         placed : (r : Address) (k : Kind) → an_empty_table r ≡ Some k → Has (IsKindAt (element q i ++ r) k) (ends_element i q)
         placed [] k have = inr (inl (sym (append-nil (element q i)), same_Some a_table k have))
         placed (s ∷ r) k have = cc
-
--- the new lines are in the forms
-pub element_forms : (q : Address) (i : ℕ) (style : List ℕ) (old new : List Line) → IsHeaderPut Two (element q i) style old new
-    → AreLines old → IsNewline style → AreLines new
-element_forms q i = header_forms Two (element q i)
-
--- and of each profile of which the old ones are
-pub element_of_profile : (profile : Profile) (q : Address) (i : ℕ) (style : List ℕ) (old new : List Line) → IsHeaderPut Two (element q i) style old new
-    → AreLinesOfProfile profile old → AreLinesOfProfile profile new
-element_of_profile profile q i = header_of_profile profile Two (element q i)

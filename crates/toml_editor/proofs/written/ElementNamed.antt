@@ -1,5 +1,6 @@
 -- What is named after a new element of an array of tables.
 use Rattle.std.proofs.Common.{◌≡◌, ℕ, List, [], ◌∷◌, refl, sym, ap, ◌∙◌}
+use Rattle.std.proofs.lemmas.List.{same_from_push}
 use Rattle.std.proofs.lemmas.Option.{same_Some}
 use Rattle.toml_tree.specs.Tree.{Line}
 use Rattle.toml_names.specs.declared.model.address.Step.TheVariants.{Index}
@@ -13,7 +14,6 @@ use Rattle.toml_layout.specs.declared.tree.Brackets.TheVariants.{Two}
 use Rattle.toml_working.specs.Heading.{header_expr, key_named}
 use Rattle.toml_working.specs.Headers.{names_of}
 use Rattle.toml_editor.specs.Blocks.{IsPut, element_block, ends_element, named_plain}
-use Rattle.toml_editor.proofs.written.Counted.{same_last}
 use Rattle.toml_editor.proofs.written.HeaderPut.{IsHeaderPut}
 use Rattle.toml_editor.proofs.written.Plain.{plain_alike}
 use Rattle.toml_editor.proofs.written.SectionNamed.{HasNames, follows, header_names_some, names_of_element, put_block, put_names}
@@ -46,12 +46,12 @@ module _ (q : Address) (i : ℕ) (style : List ℕ) (old new : List Line) (put :
   ends_there : (header_end xs [] key ≡ q) × (Index (count_tables xs (header_end xs [] key)) ≡ Index i)
   ends_there =
       let at = header_end xs [] key in
-      same_last at q (Index (count_tables xs at)) (Index i) (same_Some (element at (count_tables xs at)) (element q i) put.leads)
+      same_from_push at q (Index (count_tables xs at)) (Index i) (same_Some (element at (count_tables xs at)) (element q i) put.leads)
 
   pub element_leads : header_end xs [] (names_of q) ≡ q
   element_leads = ap (header_end xs []) (sym key_is) ∙ ends_there.0
 
-  pub element_counted : count_tables xs q ≡ i
+  element_counted : count_tables xs q ≡ i
   element_counted =
       let same = ends_there.1 in
       let count : count_tables xs (header_end xs [] key) ≡ i = cc in
@@ -73,6 +73,6 @@ module _ (q : Address) (i : ℕ) (style : List ℕ) (old new : List Line) (put :
       ∙ follows xs (ends_element i) q [] element_leads
 
 -- The new lines name what the old ones did, and in one place what the new header names.
-pub element_names : (q : Address) (i : ℕ) (style : List ℕ) (old new : List Line) → IsHeaderPut Two (element q i) style old new
+pub element_is_put : (q : Address) (i : ℕ) (style : List ℕ) (old new : List Line) → IsHeaderPut Two (element q i) style old new
     → IsPut (named_plain old) (element_block q i) (named_plain new)
-element_names q i style old new put = put_names Two (element q i) style old new put (element_block q i) (element_named q i style old new put)
+element_is_put q i style old new put = put_names Two (element q i) style old new put (element_block q i) (element_named q i style old new put)

@@ -22,7 +22,7 @@ use Rattle.toml_tree.proofs.Proved.{parts_join}
 use Rattle.toml_working.specs.FollowingHeaders.{ends_in_newline}
 
 -- the last byte is no newline, or there is none
-abbrev pub IsUnended : List ℕ → Type 0
+abbrev IsUnended : List ℕ → Type 0
 IsUnended bs = ends_in_newline bs ≡ false
 
 -- ---- bytes
@@ -178,7 +178,7 @@ string_unended MultiLineLiteral first ps =
     ∙ ends_behind ((three 0x27 ++ first) ++ pieces_text ps) 0x27 (0x27 ∷ 0x27 ∷ [])
 
 -- No token ends in a newline.
-pub token_unended : (kind : ScalarKind) (bs : List ℕ) → IsToken kind bs → IsUnended bs
+token_unended : (kind : ScalarKind) (bs : List ℕ) → IsToken kind bs → IsUnended bs
 token_unended kinds.Text bs h = subst IsUnended (sym h.1.1.3) (string_unended h.0 h.1.1.0 h.1.1.1)
 token_unended kinds.Integer bs h = integer_unended bs h.0
 token_unended kinds.Float bs h = float_unended bs h
@@ -231,7 +231,7 @@ pairs_shut (MorePairs g a v h ps) =
     (shut_behind (symbol (0x2C ∷ []) ∷ []) _ (pairs_shut ps)))))
 
 -- No value ends in a newline.
-pub value_unended : (v : Value) → IsValue v → IsUnended (joined (value_parts v))
+value_unended : (v : Value) → IsValue v → IsUnended (joined (value_parts v))
 value_unended (Scalar kind p) is = subst IsUnended (sym (append-nil p.text)) (token_unended kind p.text is)
 value_unended (Array whole items) is = shut_unended _ (shut_behind (begin whole ∷ symbol (0x5B ∷ []) ∷ []) _ (items_shut items))
 value_unended (Inline whole pairs) is = shut_unended _ (shut_behind (begin whole ∷ symbol (0x7B ∷ []) ∷ []) _ (pairs_shut pairs))
@@ -269,7 +269,7 @@ array_header_shut : (h : Header) → IsShut (array_header_parts h)
 array_header_shut h = shut_behind (symbol (0x5B ∷ []) ∷ []) _ (shut_behind (header_parts h) _ (shut_by 0x5D refl))
 
 -- No expression ends in a newline.
-pub expr_unended : (e : Expr) → IsExpr e → IsUnended (joined (expr_parts e))
+expr_unended : (e : Expr) → IsExpr e → IsUnended (joined (expr_parts e))
 expr_unended (BlankLine b) is = blank_unended b is
 expr_unended (KeyValLine ws k b) is = append_unended ws.text (joined (keyval_parts k ++ blank_parts b)) (ws_unended ws.text is.0)
     (both_unended (keyval_parts k) (blank_parts b)
@@ -296,7 +296,7 @@ before_text : (l m : Line) (ls : List Line)
 before_text l m ls = parts_join (line_parts l) (lines_parts (m ∷ ls))
 
 -- the lines end with one of no bytes
-abbrev pub EndsBare : List Line → Type 0
+abbrev EndsBare : List Line → Type 0
 EndsBare lines = (front : List Line) × (l : Line) × (lines ≡ front ++ l ∷ []) × (joined (expr_parts l.expr) ≡ []) × (l.newline.text ≡ [])
 
 front_none : (x y : List ℕ) → x ++ y ≡ [] → x ≡ []

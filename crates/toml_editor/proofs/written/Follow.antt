@@ -94,7 +94,7 @@ set_is_there profile read old new p text kinds at apart v done sets is =
     standing_is_value p lines (sym made.1 ∙ is)
 
 -- the root is no value of a line
-pub value_not_root : (p : Address) (lines : List Line) → HasLine lines p → ¬ (p ≡ [])
+value_not_root : (p : Address) (lines : List Line) → HasLine lines p → ¬ (p ≡ [])
 value_not_root p lines there none = let (table, name, member) = line_parts p lines there in no_member table name (sym none ∙ member)
   where
     no_member : (table : Address) (name : List ℕ) → [] ≡ child table name → ⊥

@@ -14,23 +14,24 @@ use Rattle.toml_names.specs.model.Data.{IsDataOf, Kinds}
 use Rattle.toml_names.specs.reader.Names.{own_address}
 use Rattle.toml_names.proofs.Proved.{above_is_above}
 use Rattle.toml_layout.specs.declared.tree.Brackets.TheVariants.{One, Two}
-use Rattle.toml_working.specs.FollowingHeaders.{behind_family, family, header_behind, or_at_end, put_following, right_above}
+use Rattle.toml_working.specs.FollowingHeaders.{behind_family, family, header_behind, or_at_end, put_following, right_above, wants_blank, writes_blank}
 use Rattle.toml_working.specs.Heading.{header_expr, shown}
 use Rattle.toml_working.specs.Headers.{element_of}
 use Rattle.toml_working.specs.RemoveStanding.{makes}
 use Rattle.toml_working.specs.Standing.{Standing, holds, is_below, lies_below, standing, standing_from}
 use Rattle.toml_working.specs.HeadingFollowed.{header_followed, header_line_behind, line_behind_family, or_header_at_end}
+use Rattle.toml_editor.proofs.written.BelowPlace.{standing_behind}
 use Rattle.toml_editor.proofs.written.Counted.{AreLast, last_child}
-use Rattle.toml_editor.proofs.written.ElementCounted.{apart_element, next_leads, under_begins}
+use Rattle.toml_editor.proofs.written.ElementCounted.{apart_element, next_leads}
 use Rattle.toml_editor.proofs.written.ElementHeaded.{away_unnamed, none_holds, some_named}
 use Rattle.toml_editor.proofs.written.EmptyAlone.{IsAway, not_any}
-use Rattle.toml_editor.proofs.written.FollowedPlace.{followed_put}
+use Rattle.toml_editor.proofs.written.FollowedPlace.{header_put_following}
 use Rattle.toml_editor.proofs.written.HeaderLeads.{leads}
 use Rattle.toml_editor.proofs.written.HeaderPut.{IsApart}
 use Rattle.toml_editor.proofs.written.HeaderSplit.{any_back}
-use Rattle.toml_editor.proofs.written.HeaderStood.{stand_append}
-use Rattle.toml_editor.proofs.written.HeaderThere.{IsPlaced}
-use Rattle.toml_editor.proofs.written.SectionFacts.{IsNextElement, IsRoom}
+use Rattle.toml_editor.proofs.written.HeaderThere.{StandsWithHeader}
+use Rattle.toml_editor.proofs.written.HeaderFacts.{IsNextElement, IsRoom}
+use Rattle.toml_editor.proofs.written.TablesStay.{under_begins}
 
 -- ---- addresses
 
@@ -74,7 +75,7 @@ not_below q s none = by s.base s.address none
         dotted true true is = let (t, rest, at) = (above_is_above q a).0 is in absurd (true≢false (sym (under_begins q a (t ∷ rest, at)) ∙ h))
 
 -- What the data have, and no line's value holds, has a line at it or below it, but for the root.
-pub line_below : (lines : List Line) (kinds : Kinds) → IsDataOf (named lines) kinds → (q : Address) → IsSome (kinds q) → list_any (holds q) (standing lines) ≡ false
+line_below : (lines : List Line) (kinds : Kinds) → IsDataOf (named lines) kinds → (q : Address) → IsSome (kinds q) → list_any (holds q) (standing lines) ≡ false
     → ¬ (q ≡ []) → list_any (is_below q) (standing lines) ≡ true
 line_below lines kinds facts q some outside not_root = by (list_any (is_below q) (standing lines)) refl
   where
@@ -91,17 +92,25 @@ line_below lines kinds facts q some outside not_root = by (list_any (is_below q)
 -- ---- a section
 
 -- by layout `Follow` the header line goes where it may stand
-pub section_followed : (q : Address) (name style : List ℕ) (may : Bool) (lines : List Line) (kinds : Kinds) → AreLines lines → KeepsRules (named lines)
+pub section_put_following : (q : Address) (name style : List ℕ) (may : Bool) (lines : List Line) (kinds : Kinds) → AreLines lines → KeepsRules (named lines)
     → IsDataOf (named lines) kinds → IsRoom q name kinds → list_any (holds q) (standing lines) ≡ false
-    → IsPlaced One (child q name) style lines (header_followed q One (child q name) style may lines) (put_following q (child q name) One style may (standing lines))
-section_followed q name style may lines kinds forms keeps facts room outside =
-    subst (λ f. IsPlaced One p style lines (header_at f) (put_at f)) (sym family_is)
-    (followed_put One p q q style may lines forms (λ xs last. last)
+    → StandsWithHeader One (child q name) style lines (writes_blank q (child q name) One style may (standing lines) ≡ true)
+    (header_followed q One (child q name) style may lines) (put_following q (child q name) One style may (standing lines))
+section_put_following q name style may lines kinds forms keeps facts room outside =
+    subst (λ f. StandsWithHeader One p style lines Blank (header_at f) (put_at f)) (sym family_is)
+    (header_put_following One p q q style may lines Blank forms (λ xs last. last)
     (λ ws front back split last apart. leads lines front back q name ws kinds split keeps facts room.table last)
-    (line_below lines kinds facts q (subst IsSome (sym room.table) refl) outside) (λ front back split none. tt))
+    (line_below lines kinds facts q (subst IsSome (sym room.table) refl) outside) (λ front back split none. tt)
+    (λ absent due. ap₂ (λ o b. not (is_some o) && b) (ap beside family_is ∙ absent) due))
   where
     p : Address
     p = child q name
+
+    Blank : Type 0
+    Blank = writes_blank q p One style may (standing lines) ≡ true
+
+    beside : Address → Option (List Standing)
+    beside f = behind_family f (λ front. header_behind p One front style) (standing lines)
 
     family_is : family q p (standing lines) ≡ q
     family_is = cond-false _ _ _ (ap (λ o. is_some o && not (list_any (is_below q) (standing lines))) (name_is_no_element q name))
@@ -115,10 +124,11 @@ section_followed q name style may lines kinds forms keeps facts room outside =
 -- ---- an element
 
 -- by layout `Follow` the header line goes where it may stand
-pub element_followed : (q : Address) (i : ℕ) (style : List ℕ) (may : Bool) (lines : List Line) (kinds : Kinds) → AreLines lines → KeepsRules (named lines)
+pub element_put_following : (q : Address) (i : ℕ) (style : List ℕ) (may : Bool) (lines : List Line) (kinds : Kinds) → AreLines lines → KeepsRules (named lines)
     → IsDataOf (named lines) kinds → IsNextElement q i kinds → list_any (holds q) (standing lines) ≡ false
-    → IsPlaced Two (element q i) style lines (header_followed q Two (element q i) style may lines) (put_following q (element q i) Two style may (standing lines))
-element_followed q i style may lines kinds forms keeps facts next outside = by (list_any (is_below q) (standing lines)) refl
+    → StandsWithHeader Two (element q i) style lines (writes_blank q (element q i) Two style may (standing lines) ≡ true)
+    (header_followed q Two (element q i) style may lines) (put_following q (element q i) Two style may (standing lines))
+element_put_following q i style may lines kinds forms keeps facts next outside = by (list_any (is_below q) (standing lines)) refl
   where
     p : Address
     p = element q i
@@ -142,20 +152,34 @@ element_followed q i style may lines kinds forms keeps facts next outside = by (
         → own_address (named front) (header_expr Two p ws) ≡ Some p
     leads_there = next_leads q i lines kinds keeps facts next outside
 
-    put_by : (f : Address) → family q p (standing lines) ≡ f → IsPlaced Two p style lines (header_at f) (put_at f)
-        → IsPlaced Two p style lines (header_followed q Two p style may lines) (put_following q p Two style may (standing lines))
-    put_by f is = subst (λ x. IsPlaced Two p style lines (header_at x) (put_at x)) (sym is)
+    Blank : Type 0
+    Blank = writes_blank q p Two style may (standing lines) ≡ true
+
+    beside : Address → Option (List Standing)
+    beside f = behind_family f (λ front. header_behind p Two front style) (standing lines)
+
+    blank_by : (f : Address) → family q p (standing lines) ≡ f → beside f ≡ None → (may && wants_blank (standing lines)) ≡ true → Blank
+    blank_by f is absent due = ap₂ (λ o b. not (is_some o) && b) (ap beside is ∙ absent) due
+
+    put_by : (f : Address) → family q p (standing lines) ≡ f → StandsWithHeader Two p style lines Blank (header_at f) (put_at f)
+        → StandsWithHeader Two p style lines Blank (header_followed q Two p style may lines) (put_following q p Two style may (standing lines))
+    put_by f is = subst (λ x. StandsWithHeader Two p style lines Blank (header_at x) (put_at x)) (sym is)
 
     by : (b : Bool) → list_any (is_below q) (standing lines) ≡ b
-        → IsPlaced Two p style lines (header_followed q Two p style may lines) (put_following q p Two style may (standing lines))
+        → StandsWithHeader Two p style lines Blank (header_followed q Two p style may lines) (put_following q p Two style may (standing lines))
     by true there =
-        put_by q (cond-false _ _ _ (ap₂ (λ a b. a && not b) (index_is_element q i) there))
-        (followed_put Two p q q style may lines forms (λ xs last. last) leads_there (λ not_root. there) (λ front back split none. apart_element q i front back none))
+        let is : family q p (standing lines) ≡ q = cond-false _ _ _ (ap₂ (λ a b. a && not b) (index_is_element q i) there) in
+        put_by q is
+        (header_put_following Two p q q style may lines Blank forms (λ xs last. last) leads_there (λ not_root. there)
+        (λ front back split none. apart_element q i front back none) (blank_by q is))
     by false none =
-        put_by r (cond-true _ _ _ (ap₂ (λ a b. a && not b) (index_is_element q i) none) ∙ ap right_above q_is ∙ above_child r n)
-        (followed_put Two p q r style may lines forms (λ xs last. subst (AreLast xs) (sym q_is) (last_child xs r n last)) leads_there
+        let is : family q p (standing lines) ≡ r =
+        cond-true _ _ _ (ap₂ (λ a b. a && not b) (index_is_element q i) none) ∙ ap right_above q_is ∙ above_child r n in
+        put_by r is
+        (header_put_following Two p q r style may lines Blank forms (λ xs last. subst (AreLast xs) (sym q_is) (last_child xs r n last)) leads_there
         (line_below lines kinds facts r (subst IsSome (sym next.table.3) refl)
         (none_holds r (Name n ∷ []) (standing lines) (subst (λ x. list_any (holds x) (standing lines) ≡ false) q_is outside)))
         (λ front back split away. apart_element q i front back
         (any_back (is_below q) (standing front) (standing_from (named front) (length front) back)
-        (ap (list_any (is_below q)) (sym (stand_append front back [])) ∙ ap (λ ls. list_any (is_below q) (standing ls)) (sym split) ∙ none))))
+        (ap (list_any (is_below q)) (sym (standing_behind front back [])) ∙ ap (λ ls. list_any (is_below q) (standing ls)) (sym split) ∙ none)))
+        (blank_by r is))

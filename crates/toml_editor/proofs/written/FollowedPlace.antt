@@ -27,7 +27,7 @@ use Rattle.toml_editor.proofs.written.HeaderPlace.{lies_is}
 use Rattle.toml_editor.proofs.written.HeaderPut.{IsApart}
 use Rattle.toml_editor.proofs.written.HeaderSplit.{IsHeadlessShown, any_back, at_end, lines_of, stand_of}
 use Rattle.toml_editor.proofs.written.HeaderStood.{counted_behind, parts, shown_lines, shown_outlined, shown_stands}
-use Rattle.toml_editor.proofs.written.HeaderThere.{IsPlaced, apart_at_end, behind_blank, end_put, put_as, put_before, some_line}
+use Rattle.toml_editor.proofs.written.HeaderThere.{StandsWithHeader, apart_at_end, stands_behind_blank, stands_at_end, stands_as, stands_before, some_line}
 use Rattle.toml_editor.proofs.written.InsertStands.{has_same}
 use Rattle.toml_editor.proofs.written.UnitsRenamed.{each_form}
 
@@ -63,31 +63,32 @@ ends_empty_is (t ∷ u ∷ ss) s = ends_empty_is (u ∷ ss) s
 
 -- ---- where it goes
 
-module _ (brackets : Brackets) (p way family : Address) (style : List ℕ) (may : Bool) (lines : List Line) where
+module _ (brackets : Brackets) (p q family : Address) (style : List ℕ) (may : Bool) (lines : List Line) (Blank : Type 0) where
   abbrev h : List Standing → Line
   h = header_line_behind p brackets style
 
   abbrev new : List Standing → Standing
   new = λ front. header_behind p brackets front style
 
-  abbrev IsPut : List Line → List Standing → Type 0
-  IsPut = IsPlaced brackets p style lines
+  abbrev WithHeader : List Line → List Standing → Type 0
+  WithHeader = StandsWithHeader brackets p style lines Blank
 
-  -- the arrays of tables on the way to the last line of the family, or below it, have so many tables behind it as the family says
+  -- the arrays of tables on which the family lies have so many tables as it says behind the last line at it or below it
   reached : (before : List Shown) (line : Shown) (between back : List Shown) → shown lines ≡ before ++ line ∷ (between ++ back) → is_below family line.1 ≡ true
       → EachIs IsHeadlessShown between → AreLast (named (lines_of (before ++ line ∷ between))) family
   reached before line between back whole below none r rest i is =
       let (a, own, rest', under) = lies_is family line.1.address below in
       counted_behind lines before line between back whole none a r (rest ++ rest') i own (under ∙ ap (λ x. x ++ rest') is ∙ append_assoc r (Index i ∷ rest) rest')
 
-  -- The way is that of the family, names aside. The key leads to the address from where the arrays of tables on the way are so reached. A line
+  -- `q` is the family, names aside. The key leads to the address from where the arrays of tables on which `q` lies are so reached. A line
   -- stands at the family or below it. An element is apart from lines that do not.
-  module _ (forms : AreLines lines) (carry : (xs : List Named) → AreLast xs family → AreLast xs way)
-      (leads : (ws : List ℕ) (front back : List Line) → lines ≡ front ++ back → AreLast (named front) way → IsApart brackets p front back
+  module _ (forms : AreLines lines) (carry : (xs : List Named) → AreLast xs family → AreLast xs q)
+      (leads : (ws : List ℕ) (front back : List Line) → lines ≡ front ++ back → AreLast (named front) q → IsApart brackets p front back
       → own_address (named front) (header_expr brackets p ws) ≡ Some p)
       (stands : ¬ (family ≡ []) → list_any (is_below family) (standing lines) ≡ true)
       (apart : (front back : List Line) → lines ≡ front ++ back → list_any (is_below family) (standing_from (named front) (length front) back) ≡ false
-      → IsApart brackets p front back) where
+      → IsApart brackets p front back)
+      (blank : behind_family family new (standing lines) ≡ None → (may && wants_blank (standing lines)) ≡ true → Blank) where
     spaced : (front back : List Standing) → standing lines ≡ front ++ back → AreLines lines → IsWs (header_ws p front)
     spaced front back split are =
         last_spaced (has_parts (names_in p)) front
@@ -95,7 +96,7 @@ module _ (brackets : Brackets) (p way family : Address) (style : List ℕ) (may 
 
     -- behind the last section of the family
     beside : (it : Followed h new family [] (shown lines) (line_behind_below family h [] (shown lines)) (behind_last family new [] (stand_of (shown lines))))
-        → IsPut (or_header_at_end p brackets style may lines (line_behind_below family h [] (shown lines)))
+        → WithHeader (or_header_at_end p brackets style may lines (line_behind_below family h [] (shown lines)))
         (or_at_end p brackets style may (standing lines) (behind_last family new [] (standing lines)))
     beside it =
         let front = it.before ++ it.line ∷ it.between in
@@ -111,7 +112,7 @@ module _ (brackets : Brackets) (p way family : Address) (style : List ℕ) (may 
         (ap (list_any (is_below family)) (sym (map-append (λ (x : Shown). x.1) it.between it.back)) ∙ it.apart) in
         let alone = apart (lines_of front) (lines_of it.back) are.lines none in
         let last = carry (named (lines_of front)) (reached it.before it.line it.between it.back it.was it.below it.headless) in
-        put_before brackets p style lines (header_ws p ahead) (spaced ahead (stand_of it.back) split) front it.back was
+        stands_before brackets p style lines Blank (header_ws p ahead) (spaced ahead (stand_of it.back) split) front it.back was
         (λ empty. some it.back empty it.more)
         (sym (has_same (lines_of it.back) (named (lines_of front)) (length (lines_of front))) ∙ ap stood.has_pair are.back_stands ∙ it.unkeyed)
         alone (leads (header_ws p ahead) (lines_of front) (lines_of it.back) are.lines last alone) _ _
@@ -125,8 +126,9 @@ module _ (brackets : Brackets) (p way family : Address) (style : List ℕ) (may 
         some (x ∷ back) empty more = cc
 
     -- at the end
-    end : AreLast (named lines) family → IsPut (header_at_end p brackets style may lines) (put_at_end p brackets style may (standing lines))
-    end last = by (may && wants_blank (standing lines)) refl
+    end : AreLast (named lines) family → behind_family family new (standing lines) ≡ None
+        → WithHeader (header_at_end p brackets style may lines) (put_at_end p brackets style may (standing lines))
+    end last absent = by (may && wants_blank (standing lines)) refl
       where
         ws : List ℕ
         ws = header_ws p (standing lines)
@@ -134,19 +136,20 @@ module _ (brackets : Brackets) (p way family : Address) (style : List ℕ) (may 
         all : AreLines lines → IsWs ws
         all = spaced (standing lines) [] (sym (append-nil (standing lines)))
 
-        by : (b : Bool) → (may && wants_blank (standing lines)) ≡ b → IsPut (header_at_end p brackets style may lines) (put_at_end p brackets style may (standing lines))
+        by : (b : Bool) → (may && wants_blank (standing lines)) ≡ b
+            → WithHeader (header_at_end p brackets style may lines) (put_at_end p brackets style may (standing lines))
         by false enough =
-            put_as brackets p style lines _ _ _ _ (ap (line_at_end (header_line brackets p ws) style) (cond-false _ _ _ enough))
+            stands_as brackets p style lines Blank _ _ _ _ (ap (line_at_end (header_line brackets p ws) style) (cond-false _ _ _ enough))
             (ap (put_at_text_end (new_header p brackets ws) style) (cond-false _ _ _ enough))
-            (end_put brackets p style lines ws all way forms (leads ws) (carry (named lines) last))
+            (stands_at_end brackets p style lines Blank ws all q forms (leads ws) (carry (named lines) last))
         by true due =
-            put_as brackets p style lines _ _ _ _ (ap (line_at_end (header_line brackets p ws) style) (cond-true _ _ _ due))
+            stands_as brackets p style lines Blank _ _ _ _ (ap (line_at_end (header_line brackets p ws) style) (cond-true _ _ _ due))
             (ap (put_at_text_end (new_header p brackets ws) style) (cond-true _ _ _ due))
             (elim (at_end (header_line brackets p ws) (new_header p brackets ws) style (shown lines) (shown_outlined lines (root ∷ []) 0)
-            (some_line brackets p style lines forms)) [
+            (some_line lines forms)) [
               | inl it ↦
-                  behind_blank brackets p style lines ws all it.front it.last it.was it.empty
-                  (leads ws lines [] (sym (append-nil lines)) (carry (named lines) last) (apart_at_end brackets p lines))
+                  stands_behind_blank brackets p style lines Blank ws all it.front it.last it.was it.empty
+                  (leads ws lines [] (sym (append-nil lines)) (carry (named lines) last) (apart_at_end brackets p lines)) (blank absent due)
               | inr it ↦ absurd (true≢false (sym (empty it.front it.last it.was) ∙ it.full))
             ])
           where
@@ -161,21 +164,21 @@ module _ (brackets : Brackets) (p way family : Address) (style : List ℕ) (may 
                 ap (λ (x : Standing). has_no_bytes x.outline) here ∙ sym (ends_empty_is (stand_of front) last.1) ∙ ap ends_empty (sym split) ∙ ends
 
     -- by the family
-    pub followed_put : IsPut (or_header_at_end p brackets style may lines (line_behind_family family h (shown lines)))
+    pub header_put_following : WithHeader (or_header_at_end p brackets style may lines (line_behind_family family h (shown lines)))
         (or_at_end p brackets style may (standing lines) (behind_family family new (standing lines)))
-    followed_put = by family refl
+    header_put_following = by family refl
       where
         Goal : Type 0
-        Goal = IsPut (or_header_at_end p brackets style may lines (line_behind_family family h (shown lines)))
+        Goal = WithHeader (or_header_at_end p brackets style may lines (line_behind_family family h (shown lines)))
             (or_at_end p brackets style may (standing lines) (behind_family family new (standing lines)))
 
         by : (f : Address) → family ≡ f → Goal
         by [] is =
-            put_as brackets p style lines _ _ _ _ (ap (λ f. or_header_at_end p brackets style may lines (line_behind_family f h (shown lines))) is)
+            stands_as brackets p style lines Blank _ _ _ _ (ap (λ f. or_header_at_end p brackets style may lines (line_behind_family f h (shown lines))) is)
             (ap (λ f. or_at_end p brackets style may (standing lines) (behind_family f new (standing lines))) is)
-            (end (subst (AreLast (named lines)) (sym is) (last_root (named lines))))
+            (end (subst (AreLast (named lines)) (sym is) (last_root (named lines))) (ap (λ f. behind_family f new (standing lines)) is))
         by (s ∷ r) is =
-            put_as brackets p style lines _ _ _ _
+            stands_as brackets p style lines Blank _ _ _ _
             (ap (λ f. or_header_at_end p brackets style may lines (line_behind_family f h (shown lines))) is
             ∙ ap (λ f. or_header_at_end p brackets style may lines (line_behind_below f h [] (shown lines))) (sym is))
             (ap (λ f. or_at_end p brackets style may (standing lines) (behind_family f new (standing lines))) is
@@ -184,10 +187,13 @@ module _ (brackets : Brackets) (p way family : Address) (style : List ℕ) (may 
               | inl none ↦
                   let some : ¬ (family ≡ []) = λ none'. (let x : ◌≡◌ {A = Address} [] (s ∷ r) = sym none' ∙ is in cc) in
                   let last = none.last (ap (list_any (is_below family)) (shown_stands lines (root ∷ []) 0) ∙ stands some) in
-                  put_as brackets p style lines _ _ _ _ (ap (or_header_at_end p brackets style may lines) none.put_none)
-                  (ap (or_at_end p brackets style may (standing lines)) (ap (behind_last family new []) (sym (shown_stands lines (root ∷ []) 0)) ∙ none.stand_none))
+                  let absent : behind_last family new [] (standing lines) ≡ None =
+                  ap (behind_last family new []) (sym (shown_stands lines (root ∷ []) 0)) ∙ none.stand_none in
+                  stands_as brackets p style lines Blank _ _ _ _ (ap (or_header_at_end p brackets style may lines) none.put_none)
+                  (ap (or_at_end p brackets style may (standing lines)) absent)
                   (end (subst (λ ls. AreLast (named ls) family) (ap lines_of (sym last.is) ∙ shown_lines lines (root ∷ []) 0)
                   (reached last.before last.line last.between []
-                  (last.is ∙ ap (λ x. last.before ++ last.line ∷ x) (sym (append-nil last.between))) last.below last.headless)))
+                  (last.is ∙ ap (λ x. last.before ++ last.line ∷ x) (sym (append-nil last.between))) last.below last.headless))
+                  (ap (λ f. behind_family f new (standing lines)) is ∙ ap (λ f. behind_last f new [] (standing lines)) (sym is) ∙ absent))
               | inr it ↦ beside it
             ])

@@ -31,6 +31,7 @@ use Rattle.toml_editor.proofs.written.UnitsAlike.{step_alike}
 abbrev pub Enters : List Named → Address → Type 0
 Enters xs a = (entered xs a ≡ a) ⊎ ((i : ℕ) × (entered xs a ≡ element a i) × (count_tables xs a ≡ i + 1))
 
+-- a key enters one of the two
 pub enters : (xs : List Named) (a : Address) → Enters xs a
 enters xs a = by (count_tables xs a == 0) refl
   where
@@ -45,7 +46,7 @@ enters xs a = by (count_tables xs a == 0) refl
 -- ---- behind lists that the lines see alike
 
 -- There lines name the same.
-pub behind_same : (ls : List Line) (xs ys : List Named) (n : ℕ) → IsSameSection xs ys ls → AreCountedBut (AreUnseen (standing_from xs n ls)) xs ys
+behind_same : (ls : List Line) (xs ys : List Named) (n : ℕ) → IsSameSection xs ys ls → AreCountedBut (AreUnseen (standing_from xs n ls)) xs ys
     → behind xs ls ≡ behind ys ls
 behind_same [] xs ys n sections same = refl
 behind_same (l ∷ ls) xs ys n sections same =
@@ -94,6 +95,7 @@ header_counted Two p ws xs line ss leads apart a = by (same_address at a) refl
         let none = count_array xs line a (part_name key.first) (rest_names key.rest) ∙ ap one_if differs in
         inr (omega (arith, all, none))
 
+-- what is apart of lines is so of what stands on them
 pub back_apart : (brackets : Brackets) (p : Address) (front back : List Line) → IsApart brackets p front back
     → AreApart brackets p (standing_from (named front) (length front) back)
 back_apart One p front back apart = tt

@@ -42,12 +42,12 @@ use Rattle.toml_editor.specs.Exact.{Follows, IsAt, WritesHeader}
 use Rattle.toml_editor.specs.PlainTexts.{IsSpreadIn}
 use Rattle.toml_editor.specs.SpelledEdits.{AreSteps, step_spelled}
 use Rattle.toml_editor.specs.Steps.{IsPlain}
-use Rattle.toml_editor.proofs.written.ElementFacts.{element_room}
+use Rattle.toml_editor.proofs.written.Closed.{no_end}
+use Rattle.toml_editor.proofs.written.HeaderFacts.{element_room, section_room}
 use Rattle.toml_editor.proofs.written.Follow.{follows}
 use Rattle.toml_editor.proofs.written.FollowedFacts.{name_is_no_element}
-use Rattle.toml_editor.proofs.written.HeaderGoes.{element_put, section_put}
+use Rattle.toml_editor.proofs.written.HeaderLaidOut.{StandsInLayout, element_laid_out, section_laid_out}
 use Rattle.toml_editor.proofs.written.InTurn.{header_is_taken}
-use Rattle.toml_editor.proofs.written.SectionFacts.{section_room}
 use Rattle.toml_editor.proofs.written.StandingOrder.{rules_order}
 use Rattle.toml_editor.proofs.written.TablesStay.{parent_is}
 
@@ -87,8 +87,8 @@ header_told profile read old new brackets p q last text kinds at own array steps
     (header_is_taken (manner old).layout q lines at.good.spelled.0.lines.forms rules)
 
 module _ (profile : Profile) (read : Read) (old new : Tree) (brackets : Brackets) (p q : Address) (last : Step) (text : List ℕ) (kinds : Kinds)
-    (at : IsAt profile read old text kinds) (own : p ≡ q ++ last ∷ []) (outside : IsInNoValue at.good.tree.lines q) (array : ArrayIsNotRoot q p) (rest : KeepsTexts old new)
-    (steps : List (String Global)) (spells : AreSteps p steps) (done : Bool) (puts : WritesHeader brackets read p steps old new done) where
+    (at : IsAt profile read old text kinds) (own : p ≡ q ++ last ∷ []) (outside : IsInNoValue at.good.tree.lines q) (array : ArrayIsNotRoot q p)
+    (rest : KeepsTexts old new) (steps : List (String Global)) (spells : AreSteps p steps) (done : Bool) (puts : WritesHeader brackets read p steps old new done) where
   abbrev lines : List Line
   lines = at.good.tree.lines
 
@@ -116,6 +116,11 @@ module _ (profile : Profile) (read : Read) (old new : Tree) (brackets : Brackets
         subst₂ (λ (s : Texts) ls. Stands (text_of s.source) read new.slots.items ls) (sym rest.texts) (cond-false _ _ _ outside ∙ sym laid) stands,
         header_manner blank,
       )
+    where
+      Laid : Address → Type 0
+      Laid x =
+          standing (header_put_in (manner old).layout q brackets x (manner old) lines)
+          ≡ header_laid_out (manner old).layout q x brackets (manner old) (may_write_blank old) (standing lines)
 
 -- a section is made, and so is the text
 pub section_follows : (profile : Profile) (read : Read) (old new : Tree) (p : Address) (text : List ℕ) (kinds now : Kinds) (at : IsAt profile read old text kinds)
@@ -127,10 +132,8 @@ section_follows profile read old new p text kinds now at none is_after (q, name,
     let room = section_room profile q name kinds (subst (λ x. IsFault profile (new_section x) kinds None) own none) in
     let array : ArrayIsNotRoot q p = subst (ArrayIsNotRoot q) (sym own) (λ some root. (let x = name_is_no_element q name in cc)) in
     let put = header_put_in (manner old).layout q One p (manner old) lines in
-    let goes = section_put q name (manner old) lines kinds at.good.spelled.0.lines.forms at.good.good.0 at.good.facts room outside in
-    let (is_done, stands, mannered) = header_made profile read old new One p q (Name name) text kinds at own outside array rest steps spells done puts put
-    (subst (λ x. standing (header_put_in (manner old).layout q One x (manner old) lines) ≡ header_laid_out (manner old).layout q x One (manner old) (may_write_blank old) (standing lines))
-    (sym own) goes.stands) in (
+    let there = section_laid_out q name (manner old) lines kinds at.good.spelled.0.lines.forms at.good.good.0 at.good.facts room outside in
+    let (is_done, stands, mannered) = header_made profile read old new One p q (Name name) text kinds at own outside array rest steps spells done puts there in (
       is_done,
       follows profile read (new_section p) old new text kinds now put at.newline at.good none is_after (q, name, own, outside, refl) stands
           (subst NoneIsGone (sym rest.elements) at.whole) rest.texts mannered,
@@ -143,13 +146,12 @@ pub element_follows : (profile : Profile) (read : Read) (old new : Tree) (p : Ad
     → (done ≡ true) × Follows profile read (new_element p) old new text now
 element_follows profile read old new p text kinds now at none is_after (q, i, own, outside) rest steps spells done puts =
     let lines = at.good.tree.lines in
-    let room = element_room profile q i kinds (lines_are_closed lines kinds at.good.good.0 at.good.facts) (subst (λ x. IsFault profile (new_element x) kinds None) own none) in
-    let array : ArrayIsNotRoot q p = (λ some root. no_child room.table.0 room.table.1 (sym root ∙ room.table.2)) in
+    let room = element_room profile q i kinds (lines_are_closed lines kinds at.good.good.0 at.good.facts)
+    (subst (λ x. IsFault profile (new_element x) kinds None) own none) in
+    let array : ArrayIsNotRoot q p = (λ some root. no_end room.table.0 (Name room.table.1) [] (sym root ∙ room.table.2)) in
     let put = header_put_in (manner old).layout q Two p (manner old) lines in
-    let goes = element_put q i (manner old) lines kinds at.good.spelled.0.lines.forms at.good.good.0 at.good.facts room outside in
-    let (is_done, stands, mannered) = header_made profile read old new Two p q (Index i) text kinds at own outside array rest steps spells done puts put
-    (subst (λ x. standing (header_put_in (manner old).layout q Two x (manner old) lines) ≡ header_laid_out (manner old).layout q x Two (manner old) (may_write_blank old) (standing lines))
-    (sym own) goes.stands) in (
+    let there = element_laid_out q i (manner old) lines kinds at.good.spelled.0.lines.forms at.good.good.0 at.good.facts room outside in
+    let (is_done, stands, mannered) = header_made profile read old new Two p q (Index i) text kinds at own outside array rest steps spells done puts there in (
       is_done,
       follows profile read (new_element p) old new text kinds now put at.newline at.good none is_after (q, i, own, outside, refl) stands
           (subst NoneIsGone (sym rest.elements) at.whole) rest.texts mannered,

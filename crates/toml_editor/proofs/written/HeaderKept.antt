@@ -1,5 +1,6 @@
 -- What is kept by a new header line, of a table or of an element: the table rules, the bound on addresses, the data.
 use Rattle.std.proofs.Common.{◌≡◌, ◌⊎◌, inl, inr, ◌<◌, ◌≤◌, ℕ, true, false, Some, None, List, [], ◌∷◌, ◌++◌, length, length-append, refl, sym, ap, ◌∙◌, subst, subst₂, append_assoc, append-nil, arith}
+use Rattle.std.proofs.lemmas.List.{same_from_push}
 use Rattle.std.specs.List.{list_any}
 use Rattle.std.proofs.lemmas.Option.{same_Some}
 use Rattle.toml_tree.specs.Spells.{EachIs}
@@ -19,15 +20,14 @@ use Rattle.toml_editor.specs.Blocks.{IsPut, named_plain}
 use Rattle.toml_editor.proofs.Each.{each_append, each_front, each_back, each_weaker}
 use Rattle.toml_editor.proofs.written.BlockFacts.{each_put, has_old, has_block, has_new}
 use Rattle.toml_editor.proofs.written.Clear.{above_apart}
-use Rattle.toml_editor.proofs.written.Counted.{same_last}
 use Rattle.toml_editor.proofs.written.CountedArrays.{followed_has}
 use Rattle.toml_editor.proofs.written.EmptyAlone.{each_both}
 use Rattle.toml_editor.proofs.written.HeaderCounted.{Enters, enters}
 use Rattle.toml_editor.proofs.written.HeaderLeads.{IsKindAt}
 use Rattle.toml_editor.proofs.written.Pairwise.{PairsAre, Goes, Has, any_of_has, all_of_pairs, from_has, has_of_any, has_weaker, members_self, pairs_append, pairs_back, pairs_between, pairs_front, pairs_of_all}
 use Rattle.toml_editor.proofs.written.Plain.{behind, plain_alike}
-use Rattle.toml_editor.proofs.written.SectionNamed.{HasNames, IsPutThere, end_under}
-use Rattle.toml_editor.proofs.written.SectionRoles.{HasKind, IsLater, IsNotOver, RoleHas, all_later, kinds_are, none_over}
+use Rattle.toml_editor.proofs.written.SectionNamed.{HasNames, IsNamedBetween, end_behind_name}
+use Rattle.toml_editor.proofs.written.Roles.{HasKind, IsLater, IsNotOver, RoleHas, all_later, kinds_are, none_over}
 use Rattle.toml_editor.proofs.written.Unplain.{each_plain, has_plain, plain_has, plain_short, rules_plain, short_plain}
 
 -- ---- what the header names
@@ -42,11 +42,11 @@ pub record IsPassed (a : Address) (xs : List Named) (m : Named) : Type 0 where
   pub there : (c : Address) (i : ℕ) → m.address ≡ element c i → i < count_tables xs c
 
 -- such a one, or what stands at the end
-abbrev pub IsOfHeader : (Named → Type 0) → Address → List Named → Named → Type 0
+abbrev IsOfHeader : (Named → Type 0) → Address → List Named → Named → Type 0
 IsOfHeader E a xs m = E m ⊎ IsPassed a xs m
 
 -- what stands at the end is at the address or below it
-abbrev pub IsAtEnd : (Named → Type 0) → Address → Type 0
+abbrev IsAtEnd : (Named → Type 0) → Address → Type 0
 IsAtEnd E a = (m : Named) → E m → (rest : Address) × (m.address ≡ a ++ rest)
 
 -- what the header of a key that leads to the address names goes together, and what stands at the end is in it
@@ -61,9 +61,9 @@ module _ (E : Named → Type 0) (end : Address → List Named) (xs : List Named)
   entered_there at n c i is = by (enters xs (child at n))
     where
       by : Enters xs (child at n) → i < count_tables xs c
-      by (inl e) = let (parents, lasts) = same_last at c (Name n) (Index i) (sym e ∙ is) in absurd (let f : ⊥ = cc in f)
+      by (inl e) = let (parents, lasts) = same_from_push at c (Name n) (Index i) (sym e ∙ is) in absurd (let f : ⊥ = cc in f)
       by (inr (j, e, count)) =
-          let (arrays, lasts) = same_last (child at n) c (Index j) (Index i) (sym e ∙ is) in
+          let (arrays, lasts) = same_from_push (child at n) c (Index j) (Index i) (sym e ∙ is) in
           let same : j ≡ i = cc in
           subst (λ a. i < count_tables xs a) arrays (omega (arith, count, same))
 
@@ -72,14 +72,14 @@ module _ (E : Named → Type 0) (end : Address → List Named) (xs : List Named)
   of_header (n ∷ []) at are = each_weaker E (IsOfHeader E (child at n) xs) (λ m is. inl is) (end (child at n)) are
   of_header (n ∷ m ∷ more) at are =
       let to = entered xs (child at n) in
-      let (r, under) = end_under xs more to m in
+      let (r, under) = end_behind_name xs more to m in
       ((inr (record { kind = refl; role = refl; name = m; rest = r; is = under; there = λ c i is. entered_there at n c i is })), of_header (m ∷ more) to are)
 
   -- what is passed goes before what is named behind it
   passes_first : (to : Address) (m : List ℕ) (more : Key) (x : Named) → IsAtEnd E (header_end xs to (m ∷ more)) → IsOfHeader E (header_end xs to (m ∷ more)) xs x
       → Goes (table_at 0 Passed to) x
   passes_first to m more x ends (inl is) same =
-      let (r, under) = end_under xs more to m in
+      let (r, under) = end_behind_name xs more to m in
       let (rest, at) = ends x is in
       absurd (above_apart to x.address (Name m, r ++ rest, at ∙ ap (λ (a : Address). a ++ rest) under ∙ append_assoc to (Name m ∷ r) rest) (sym same))
   passes_first to m more x ends (inr passed) same = subst (λ r. may_follow Passed r ≡ true) (sym passed.role) refl
@@ -95,6 +95,7 @@ module _ (E : Named → Type 0) (end : Address → List Named) (xs : List Named)
         header_pairs (m ∷ more) to are pairs ends,
       )
 
+  -- what the header names is such a block
   pub header_block : (key : Key) (a : Address) (block : List Named) → HasNames key → header_end xs [] key ≡ a → followed 0 xs end [] key ≡ block
       → EachIs E (end a) → PairsAre Goes (end a) → IsAtEnd E a → IsHeaderBlock E end a xs block
   header_block key a block (n, ns, some) leads names are pairs ends =
@@ -163,7 +164,7 @@ header_moves E end a xs block old new base v kinds after are puts is is' tables 
 -- ---- rules
 
 -- what holds of all that was named, where no line's value stands at the address or above it
-abbrev pub IsOld : Kinds → Address → Named → Type 0
+abbrev IsOld : Kinds → Address → Named → Type 0
 IsOld kinds q m = (kinds m.address ≡ Some m.kind) × HasKind m × IsNotOver q m
 
 all_old : (old : List Line) (kinds : Kinds) (q : Address) → IsDataOf (named old) kinds → list_any (holds q) (standing old) ≡ false
@@ -200,6 +201,7 @@ module _ (kinds : Kinds) (q : Address) (xs : List Named) where
   array_role Element k is array v = absurd (let f : ⊥ = cc in f)
   array_role Bare k is array v = (refl, refl)
 
+  -- an array of tables that is there goes with what was named
   pub array_goes : (b : Named) → b.role ≡ Tables → b.address ≡ q → kinds q ≡ Some an_array → BothGo b
   array_goes b role at array = (
     (λ e was same. subst (λ r. may_follow e.role r ≡ true) (sym role) (roles e was same).0),
@@ -230,7 +232,7 @@ module _ (kinds : Kinds) (q : Address) (xs : List Named) where
   behind_passed Element v t e = absurd (e refl)
   behind_passed Bare v t e = refl
 
-  pub passed_goes : (a : Address) (b : Named) → AreTables a kinds → ((r rest : Address) (n : List ℕ) → a ≡ r ++ Name n ∷ rest → (s : Address) × (q ≡ r ++ s))
+  passed_goes : (a : Address) (b : Named) → AreTables a kinds → ((r rest : Address) (n : List ℕ) → a ≡ r ++ Name n ∷ rest → (s : Address) × (q ≡ r ++ s))
       → IsPassed a xs b → BothGo b
   passed_goes a b tables over passed = (
     (λ e was same. subst (λ r. may_follow e.role r ≡ true) (sym passed.role) (before_passed e.role (not_valued e was same) (not_tables e was same))),
@@ -256,7 +258,7 @@ module _ (kinds : Kinds) (q : Address) (xs : List Named) where
 
 -- What the header names keeps the rules between what was named.
 pub header_rules : (E : Named → Type 0) (end : Address → List Named) (a : Address) (block : List Named) (old new front back : List Line) (kinds : Kinds) (q : Address)
-    → IsHeaderBlock E end a (named front) block → IsPutThere block front back old new → KeepsRules (named old) → IsDataOf (named old) kinds
+    → IsHeaderBlock E end a (named front) block → IsNamedBetween block front back old new → KeepsRules (named old) → IsDataOf (named old) kinds
     → list_any (holds q) (standing old) ≡ false → AreTables a kinds → ((r rest : Address) (n : List ℕ) → a ≡ r ++ Name n ∷ rest → (s : Address) × (q ≡ r ++ s))
     → ((m : Named) → E m → BothGo kinds q (named front) m) → KeepsRules (named new)
 header_rules E end a block old new front back kinds q are there keeps is alone tables over ends =

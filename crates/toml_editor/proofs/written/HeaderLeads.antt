@@ -1,6 +1,7 @@
 -- The key of a new section's header leads to its address.
 use Rattle.std.proofs.Common.{◌≡◌, ◌∙◌, inl, inr, ℕ, zero, suc, ◌+◌, ◌-◌, ◌==◌, Bool, true, false, cond, Option, Some, None, List, [], ◌∷◌, ◌++◌, map, refl, sym, ap, ap₂, subst, append_assoc, append-nil, arith}
 use Rattle.std.proofs.lemmas.Bool.Decides.{nat_tests}
+use Rattle.std.proofs.lemmas.List.{same_from_push}
 use Rattle.std.proofs.lemmas.Option.{same_Some}
 use Rattle.toml_tree.specs.Tree.{Dotted, Line}
 use Rattle.toml_names.specs.declared.model.address.Step.{Step}
@@ -17,22 +18,25 @@ use Rattle.toml_layout.specs.declared.tree.Brackets.TheVariants.{One}
 use Rattle.toml_working.specs.Heading.{dotted_name, header_expr, key_named}
 use Rattle.toml_working.specs.Headers.{names_of}
 use Rattle.toml_editor.proofs.written.Clear.{same_is}
-use Rattle.toml_editor.proofs.written.Counted.{AreLast, counts_grow, last_child, last_step, no_cons, same_last}
+use Rattle.toml_editor.proofs.written.Closed.{no_end}
+use Rattle.toml_editor.proofs.written.Counted.{AreLast, counts_grow, last_child, last_or_earlier}
 use Rattle.toml_editor.proofs.written.CountedArrays.{IsNamedLast, count_unnamed, counted_arrays, element_unnamed, root_unnamed}
 use Rattle.toml_editor.proofs.written.InsertNamed.{spelled_again}
 use Rattle.toml_editor.proofs.written.Pairwise.{Has, any_of_has, has_append_left, has_of_any, has_parts, has_weaker}
+use Rattle.toml_editor.proofs.written.TablesStay.{closed_down}
 
 -- ---- a name is put in a table
 
+-- what is named at an address, and is of this kind
 abbrev pub IsKindAt : Address → Kind → Named → Type 0
 IsKindAt at k m = (m.address ≡ at) × (m.kind ≡ k)
 
-abbrev IsAt : Address → Named → Type 0
-IsAt at m = m.address ≡ at
+abbrev pub IsNamedAt : Address → Named → Type 0
+IsNamedAt at m = m.address ≡ at
 
 -- where a name stands below an address, a table is named there
 abbrev NamesAreInTables : List Named → Type 0
-NamesAreInTables ms = (u : Address) (n : List ℕ) → Has (IsAt (child u n)) ms → Has (IsKindAt u a_table) ms
+NamesAreInTables ms = (u : Address) (n : List ℕ) → Has (IsNamedAt (child u n)) ms → Has (IsKindAt u a_table) ms
 
 -- the first kind at an address is named there
 fact_named : (ms : List Named) (at : Address) (k : Kind) → fact_at ms at ≡ Some k → Has (IsKindAt at k) ms
@@ -44,12 +48,12 @@ fact_named (m ∷ ms) at k is = by (same_address m.address at) refl is (fact_nam
     by true same here more = inl (same_is m.address at same, same_Some m.kind k here)
     by false other here more = inr (more here)
 
-kind_is_at : (at : Address) (k : Kind) (ms : List Named) → Has (IsKindAt at k) ms → Has (IsAt at) ms
-kind_is_at at k ms = has_weaker (IsKindAt at k) (IsAt at) (λ m h. h.0) ms
+kind_is_at : (at : Address) (k : Kind) (ms : List Named) → Has (IsKindAt at k) ms → Has (IsNamedAt at) ms
+kind_is_at at k ms = has_weaker (IsKindAt at k) (IsNamedAt at) (λ m h. h.0) ms
 
 -- what joins so is put in a table
 next_names : (ms : List Named) (m : Named) → NamesAreInTables ms → Joins ms m → NamesAreInTables (ms ++ m ∷ [])
-next_names ms m are joins u n has = elim (has_parts (IsAt (child u n)) ms (m ∷ []) has) [
+next_names ms m are joins u n has = elim (has_parts (IsNamedAt (child u n)) ms (m ∷ []) has) [
   | inl before ↦ has_append_left (IsKindAt u a_table) ms (m ∷ []) (are u n before)
   | inr (inr none) ↦ absurd none
   | inr (inl at) ↦ has_append_left (IsKindAt u a_table) ms (m ∷ []) (by joins at)
@@ -57,11 +61,11 @@ next_names ms m are joins u n has = elim (has_parts (IsAt (child u n)) ms (m ∷
   where
     by : Joins ms m → m.address ≡ child u n → Has (IsKindAt u a_table) ms
     by (inl free) at =
-        let same = same_last u free.parent (Name n) free.last (sym at ∙ free.is) in
+        let same = same_from_push u free.parent (Name n) free.last (sym at ∙ free.is) in
         let next : IsNext (fact_at ms) u (Name n) =
         subst (λ s. IsNext (fact_at ms) u s) (sym same.1) (subst (λ (p : Address). IsNext (fact_at ms) p free.last) (sym same.0) free.next) in
         fact_named ms u a_table next
-    by (inr again) at = are u n (subst (λ a. Has (IsAt a) ms) at (kind_is_at m.address m.kind ms (fact_named ms m.address m.kind again.there)))
+    by (inr again) at = are u n (subst (λ a. Has (IsNamedAt a) ms) at (kind_is_at m.address m.kind ms (fact_named ms m.address m.kind again.there)))
 
 all_names : (more ms : List Named) → NamesAreInTables ms → JoinAll ms more → NamesAreInTables (ms ++ more)
 all_names [] ms are joins = subst NamesAreInTables (sym (append-nil ms)) are
@@ -82,29 +86,23 @@ line_names lines keeps =
     subst NamesAreInTables (sym front.1) (all_names front.0 (root ∷ []) first (subst Joined front.1 (lines_join lines keeps)))
   where
     first : NamesAreInTables (root ∷ [])
-    first u n (inl at) = absurd (no_cons u (Name n) [] at)
+    first u n (inl at) = absurd (no_end u (Name n) [] at)
     first u n (inr none) = absurd none
 
 module _ (lines : List Line) (kinds : Kinds) (keeps : KeepsRules (named lines)) (data_is : IsDataOf (named lines) kinds) where
   -- what a name follows in the data is a table
-  pub name_in_table : (u : Address) (n : List ℕ) → ¬ (kinds (child u n) ≡ None) → kinds u ≡ Some a_table
+  name_in_table : (u : Address) (n : List ℕ) → ¬ (kinds (child u n) ≡ None) → kinds u ≡ Some a_table
   name_in_table u n some = by (kinds (child u n)) refl
     where
-      named_so : (k : Kind) → kinds (child u n) ≡ Some k → Has (IsAt (child u n)) (named lines)
+      named_so : (k : Kind) → kinds (child u n) ≡ Some k → Has (IsNamedAt (child u n)) (named lines)
       named_so k is = kind_is_at (child u n) k (named lines) (has_of_any (IsKindAt (child u n) k) (named lines) ((data_is (child u n) k).0 is))
 
       by : (o : Option Kind) → kinds (child u n) ≡ o → kinds u ≡ Some a_table
       by None is = absurd (some is)
       by (Some k) is = (data_is u a_table).1 (any_of_has (IsKindAt u a_table) (named lines) (line_names lines keeps u n (named_so k is)))
 
-  -- where nothing stands, nothing stands at any depth below
-  none_below : (more at : Address) → kinds at ≡ None → kinds (at ++ more) ≡ None
-  none_below [] at none = ap kinds (append-nil at) ∙ none
-  none_below (s ∷ more) at none =
-      ap kinds (sym (append_assoc at (s ∷ []) more)) ∙ none_below more (at ++ s ∷ []) (lines_are_closed lines kinds keeps data_is at s none)
-
-  -- so it is no array of tables
-  pub table_uncounted : (front back : List Line) (r : Address) → lines ≡ front ++ back → kinds r ≡ Some a_table → count_tables (named front) r ≡ 0
+  -- a table is no array of tables
+  table_uncounted : (front back : List Line) (r : Address) → lines ≡ front ++ back → kinds r ≡ Some a_table → count_tables (named front) r ≡ 0
   table_uncounted front back r parts table = by (count_tables (named front) r) refl
     where
       by : (k : ℕ) → count_tables (named front) r ≡ k → count_tables (named front) r ≡ 0
@@ -119,13 +117,13 @@ module _ (lines : List Line) (kinds : Kinds) (keeps : KeepsRules (named lines)) 
   module _ (q : Address) (name : List ℕ) (table : kinds q ≡ Some a_table) where
     -- each front that a name follows is a table
     pub fronts_are_tables : (r rest : Address) (n : List ℕ) → child q name ≡ r ++ Name n ∷ rest → kinds r ≡ Some a_table
-    fronts_are_tables r rest n is = elim (last_step q r (Name name) (Name n) rest is) [
+    fronts_are_tables r rest n is = elim (last_or_earlier q r (Name name) (Name n) rest is) [
       | inl same ↦ sym (ap kinds same.0) ∙ table
       | inr more ↦ name_in_table r n (λ none. absurd (let e : None ≡ Some a_table = sym (below more.0 none) ∙ ap kinds (sym more.1) ∙ table in cc))
     ]
       where
         below : (more : Address) → kinds (child r n) ≡ None → kinds (r ++ Name n ∷ more) ≡ None
-        below more none = ap kinds (sym (append_assoc r (Name n ∷ []) more)) ∙ none_below more (child r n) none
+        below more none = ap kinds (sym (append_assoc r (Name n ∷ []) more)) ∙ closed_down kinds (lines_are_closed lines kinds keeps data_is) more (child r n) none
 
 -- ---- along the key
 
@@ -167,6 +165,7 @@ names_again : (names : Key) → map (λ (d : Dotted). part_name d.part) (map dot
 names_again [] = refl
 names_again (n ∷ names) = ap₂ (λ a b. a ∷ b) (spelled_again n) (names_again names)
 
+-- names that are spelled as a key are read again
 pub key_again : (n : List ℕ) (names : Key) → key_names (key_named (n ∷ names)) ≡ n ∷ names
 key_again n names = ap₂ (λ a b. a ∷ b) (spelled_again n) (names_again names)
 

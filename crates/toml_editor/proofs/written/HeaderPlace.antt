@@ -18,7 +18,7 @@ use Rattle.toml_editor.proofs.written.Counted.{AreLast}
 use Rattle.toml_editor.proofs.written.HeaderPut.{IsApart}
 use Rattle.toml_editor.proofs.written.HeaderSplit.{LastBelow, NextHeader, lines_of, next_header}
 use Rattle.toml_editor.proofs.written.HeaderStood.{counted_behind, index_in, parts, shown_lines, shown_stands}
-use Rattle.toml_editor.proofs.written.HeaderThere.{IsPlaced, end_put, put_as, put_before}
+use Rattle.toml_editor.proofs.written.HeaderThere.{StandsWithHeader, stands_at_end, stands_as, stands_before}
 use Rattle.toml_editor.proofs.written.TablesStay.{begins_under}
 
 -- ---- lines by what stands on them
@@ -44,19 +44,19 @@ pub below_is : (e : Address) (base : Option ℕ) (own : Option Address) → head
 below_is e (Some n) own is = absurd (true≢false (sym is))
 below_is e None own is = lies_is e own is
 
-module _ (brackets : Brackets) (p way : Address) (style : List ℕ) (lines : List Line) where
+module _ (brackets : Brackets) (p q : Address) (style : List ℕ) (lines : List Line) (Blank : Type 0) where
   abbrev h : List ℕ → Line
   h = header_line brackets p []
 
   abbrev new : List ℕ → Standing
   new = new_header p brackets []
 
-  -- the arrays of tables on the way have so many tables in front as the way says
+  -- the arrays of tables on which `q` lies have so many tables in front as it says
   abbrev IsReached : List Line → Type 0
-  IsReached front = AreLast (named front) way
+  IsReached front = AreLast (named front) q
 
   -- behind the last header line of the innermost element
-  reached_behind : (e : Address) → innermost way ≡ Some e → (front back : List Shown) → shown lines ≡ front ++ back → LastBelow e front → IsReached (lines_of front)
+  reached_behind : (e : Address) → innermost q ≡ Some e → (front back : List Shown) → shown lines ≡ front ++ back → LastBelow e front → IsReached (lines_of front)
   reached_behind e inner front back was last r rest i is =
       let (f, inner', more, split) = index_in r rest i in
       let same : f ≡ e = (let x : ◌≡◌ {A = Option Address} (Some f) (Some e) = sym inner' ∙ ap innermost (sym is) ∙ inner in cc) in
@@ -68,17 +68,17 @@ module _ (brackets : Brackets) (p way : Address) (style : List ℕ) (lines : Lis
       ap (λ xs. count_tables (named (lines_of xs)) r) last.is
       ∙ counted_behind lines last.before last.line last.between back whole last.headless a r (more ++ rest') i own at
 
-  -- The key leads to the address from where the arrays of tables on the way are so reached. A header line stands at the innermost element or below
+  -- The key leads to the address from where these arrays are so reached. A header line stands at the innermost element or below
   -- it. An element is apart from lines that have neither a key before their first header nor a header at the innermost element or below it.
   module _ (forms : AreLines lines)
       (leads : (front back : List Line) → lines ≡ front ++ back → IsReached front → IsApart brackets p front back
       → own_address (named front) (header_expr brackets p []) ≡ Some p)
-      (headed : (e : Address) → innermost way ≡ Some e → has_below e (standing lines) ≡ true)
-      (apart : (e : Address) → innermost way ≡ Some e → (front back : List Line) → has_pair back ≡ false
+      (headed : (e : Address) → innermost q ≡ Some e → has_below e (standing lines) ≡ true)
+      (apart : (e : Address) → innermost q ≡ Some e → (front back : List Line) → has_pair back ≡ false
       → has_below e (standing_from (named front) (length front) back) ≡ false → IsApart brackets p front back) where
     -- before the next header line behind those of the element
-    next_put : (e : Address) → innermost way ≡ Some e → (it : NextHeader (h style) (new style) e (shown lines))
-        → IsPlaced brackets p style lines (or_line_at_end h style lines (line_before_next e (h style) (shown lines)))
+    next_put : (e : Address) → innermost q ≡ Some e → (it : NextHeader (h style) (new style) e (shown lines))
+        → StandsWithHeader brackets p style lines Blank (or_line_at_end h style lines (line_before_next e (h style) (shown lines)))
         (or_last new style (standing lines) (before_next e (new style) (standing lines)))
     next_put e inner it =
         let parted = it.parted in
@@ -89,28 +89,28 @@ module _ (brackets : Brackets) (p way : Address) (style : List ℕ) (lines : Lis
         let unkeyed : has_pair back ≡ false =
         header_unkeyed (named front) parted.head.0 (lines_of parted.rest) (ap (λ (s : Standing). is_header s.base s.address) here ∙ parted.heads) in
         let alone = apart e inner front back unkeyed (ap (has_below e) are.back_stands ∙ it.behind) in
-        put_before brackets p style lines [] (λ are'. tt) parted.front (parted.head ∷ parted.rest) parted.was (λ none. cc) unkeyed alone
+        stands_before brackets p style lines Blank [] (λ are'. tt) parted.front (parted.head ∷ parted.rest) parted.was (λ none. cc) unkeyed alone
         (leads front back are.lines (reached_behind e inner parted.front (parted.head ∷ parted.rest) parted.was it.last) alone) _ _
         (ap (or_line_at_end h style lines) parted.lines)
         (ap (or_last new style (standing lines)) (ap (before_next e (new style)) (sym (shown_stands lines (root ∷ []) 0)) ∙ parted.stands))
 
-    pub header_put : IsPlaced brackets p style lines (header_lines way brackets p style lines) (put_plainly (innermost way) new style (standing lines))
-    header_put = by (innermost way) refl
+    pub header_put_plainly : StandsWithHeader brackets p style lines Blank (header_lines q brackets p style lines) (put_plainly (innermost q) new style (standing lines))
+    header_put_plainly = by (innermost q) refl
       where
-        end : IsReached lines → IsPlaced brackets p style lines (line_at_end h style lines) (put_at_text_end new style (standing lines))
-        end = end_put brackets p style lines [] (λ are. tt) way forms leads
+        end : IsReached lines → StandsWithHeader brackets p style lines Blank (line_at_end h style lines) (put_at_text_end new style (standing lines))
+        end = stands_at_end brackets p style lines Blank [] (λ are. tt) q forms leads
 
-        by : (o : Option Address) → innermost way ≡ o
-            → IsPlaced brackets p style lines (header_lines way brackets p style lines) (put_plainly (innermost way) new style (standing lines))
+        by : (o : Option Address) → innermost q ≡ o
+            → StandsWithHeader brackets p style lines Blank (header_lines q brackets p style lines) (put_plainly (innermost q) new style (standing lines))
         by None inner =
-            put_as brackets p style lines _ _ _ _ (ap (λ o. line_put_plainly o h style lines) inner) (ap (λ o. put_plainly o new style (standing lines)) inner)
+            stands_as brackets p style lines Blank _ _ _ _ (ap (λ o. line_put_plainly o h style lines) inner) (ap (λ o. put_plainly o new style (standing lines)) inner)
             (end (λ r rest i is. let (e, some', more, split) = index_in r rest i in
             let x : ◌≡◌ {A = Option Address} None (Some e) = sym inner ∙ ap innermost is ∙ some' in cc))
         by (Some e) inner =
-            put_as brackets p style lines _ _ _ _ (ap (λ o. line_put_plainly o h style lines) inner) (ap (λ o. put_plainly o new style (standing lines)) inner)
+            stands_as brackets p style lines Blank _ _ _ _ (ap (λ o. line_put_plainly o h style lines) inner) (ap (λ o. put_plainly o new style (standing lines)) inner)
             (elim (next_header (h style) (new style) e (shown lines)) [
               | inl none ↦
-                  put_as brackets p style lines _ _ _ _ (ap (or_line_at_end h style lines) none.put)
+                  stands_as brackets p style lines Blank _ _ _ _ (ap (or_line_at_end h style lines) none.put)
                   (ap (or_last new style (standing lines)) (ap (before_next e (new style)) (sym (shown_stands lines (root ∷ []) 0)) ∙ none.stand))
                   (end (subst IsReached (shown_lines lines (root ∷ []) 0)
                   (reached_behind e inner (shown lines) [] (sym (append-nil (shown lines)))

@@ -1,5 +1,5 @@
 -- How a new header line stands among lines.
-use Rattle.std.proofs.Common.{◌≡◌, ◌⊎◌, ℕ, true, false, List, [], ◌∷◌, ◌++◌, length, Some}
+use Rattle.std.proofs.Common.{◌≡◌, ◌⊎◌, ℕ, true, false, List, [], ◌∷◌, ◌++◌, length, Some, ◌+◌}
 use Rattle.std.specs.List.{list_any}
 use Rattle.toml_text.specs.Forms.{IsWs}
 use Rattle.toml_tree.specs.Bare.{fresh}
@@ -66,6 +66,6 @@ pub record IsHeaderPut (brackets : Brackets) (p : Address) (style : List ℕ) (o
   pub unkeyed : has_pair back ≡ false
   pub apart : IsApart brackets p front back
 
--- of a table
-abbrev pub IsSectionPut : Address → List ℕ → List Line → List Line → Type 0
-IsSectionPut = IsHeaderPut One
+-- one line came alone
+abbrev pub IsOneMore : List Line → List Line → Type 0
+IsOneMore old new = length new ≡ length old + 1

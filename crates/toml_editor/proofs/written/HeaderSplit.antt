@@ -120,6 +120,7 @@ module _ (h : Line) (new : Standing) where
       pub stand : before_next e new (stand_of xs) ≡ None
       pub last : has_below e (stand_of xs) ≡ true → LastBelow e xs
 
+    -- there is no next header line, or one
     pub next_header : (xs : List Shown) → NoNext xs ⊎ NextHeader xs
     next_header [] = inl (record { put = refl; stand = refl; last = λ is. absurd (true≢false (sym is)) })
     next_header ((l, s) ∷ xs) = by (has_below e (stand_of xs)) refl (is_sought_line sought.HeaderBelow e s) refl (next_header xs) (first_header xs)
@@ -186,6 +187,7 @@ module _ (h : List ℕ → Line) (new : List ℕ → Standing) (style : List ℕ
     pub lines : line_at_end h style (lines_of xs) ≡ lines_of front ++ line_behind_last h style last.0 last.0.newline.text
     pub stands : put_at_text_end new style (stand_of xs) ≡ stand_of front ++ put_after new style last.1 last.0.newline.text
 
+  -- lines end so, if there are some
   pub at_end : (xs : List Shown) → EachIs IsOutlined xs → ¬ (xs ≡ []) → BeforeEmpty xs ⊎ BehindLast xs
   at_end [] outlined some = absurd (some refl)
   at_end ((l, s) ∷ []) outlined some = by (has_no_bytes (line_outline l)) refl

@@ -25,6 +25,7 @@ use Rattle.toml_working.specs.Inserting.{has_pair}
 use Rattle.toml_working.specs.Removing.{no_blank}
 use Rattle.toml_working.specs.Placing.{is_header}
 use Rattle.toml_working.specs.Standing.{Standing, line_stands, standing, standing_from}
+use Rattle.toml_editor.proofs.written.BelowPlace.{standing_behind}
 use Rattle.toml_editor.proofs.written.Counted.{counts_stay, own_counts}
 use Rattle.toml_editor.proofs.written.CountedAlike.{stand_same, standing_same}
 use Rattle.toml_editor.proofs.written.DocumentSections.{named_next}
@@ -35,6 +36,7 @@ use Rattle.toml_editor.proofs.written.InsertPlace.{IsHeadless}
 
 -- ---- lines, each with what stands on it
 
+-- the lines are those that are shown, and what stands on them is that
 pub shown_lines : (ls : List Line) (xs : List Named) (n : ℕ) → lines_of (shown_from xs n ls) ≡ ls
 shown_lines [] xs n = refl
 shown_lines (l ∷ ls) xs n = ap (λ r. l ∷ r) (shown_lines ls (xs ++ named_by xs n l.expr) (n + 1))
@@ -53,6 +55,7 @@ pub record AreParts (before ls : List Line) (front back : List Shown) : Type 0 w
   pub front_stands : standing_from (named before) (length before) (lines_of front) ≡ stand_of front
   pub back_stands : standing_from (named (before ++ lines_of front)) (length (before ++ lines_of front)) (lines_of back) ≡ stand_of back
 
+-- where lines are shown in two parts, they are these parts, and stand so
 pub parts : (front back : List Shown) (ls before : List Line) → shown_from (named before) (length before) ls ≡ front ++ back → AreParts before ls front back
 parts [] back ls before is =
     let are : ls ≡ lines_of back = sym (shown_lines ls (named before) (length before)) ∙ ap lines_of is in
@@ -77,17 +80,6 @@ parts (f ∷ front) back (l ∷ ls) before is =
           ap (λ bs. standing_from (named bs) (length bs) (lines_of back)) (sym (append_assoc before (l ∷ []) (lines_of front))) ∙ more.back_stands;
     })
 
-pub stand_append : (front tail before : List Line) → standing_from (named before) (length before) (front ++ tail)
-    ≡ standing_from (named before) (length before) front ++ standing_from (named (before ++ front)) (length (before ++ front)) tail
-stand_append [] tail before = ap (λ bs. standing_from (named bs) (length bs) tail) (sym (append-nil before))
-stand_append (l ∷ front) tail before =
-    let on : (ls : List Line) → standing_from (named before ++ named_by (named before) (length before) l.expr) (length before + 1) ls
-        ≡ standing_from (named (before ++ l ∷ [])) (length (before ++ l ∷ [])) ls =
-    λ ls. ap₂ (λ xs n. standing_from xs n ls) (sym (named_next before l)) (sym (length-append before (l ∷ []))) in
-    ap (λ r. line_stands (named before) l ∷ r) (on (front ++ tail) ∙ stand_append front tail (before ++ l ∷ []))
-    ∙ ap₂ (λ a b. line_stands (named before) l ∷ (a ++ b)) (sym (on front))
-    (ap (λ bs. standing_from (named bs) (length bs) tail) (append_assoc before (l ∷ []) front))
-
 -- ---- lines without a header, by what stands on them
 
 -- a line that is no header by what stands on it has none
@@ -98,7 +90,7 @@ headless xs (TableLine ws header tail) is = true≢false is
 headless xs (ArrayTableLine ws header tail) is = true≢false is
 
 -- so the first of some lines have none
-pub front_headless : (zs back : List Shown) (xs : List Named) (n : ℕ) → standing_from xs n (lines_of (zs ++ back)) ≡ stand_of (zs ++ back) → EachIs IsHeadlessShown zs
+front_headless : (zs back : List Shown) (xs : List Named) (n : ℕ) → standing_from xs n (lines_of (zs ++ back)) ≡ stand_of (zs ++ back) → EachIs IsHeadlessShown zs
     → EachIs (λ (l : Line). IsHeadless l.expr) (lines_of zs)
 front_headless [] back xs n is none = tt
 front_headless (z ∷ zs) back xs n is none =
@@ -143,7 +135,7 @@ outlined brackets ws newline (n ∷ ns) =
       newline = newline;
     }) (names_outlined ns)
 
-pub header_outlined : (brackets : Brackets) (p : Address) (ws newline : List ℕ)
+header_outlined : (brackets : Brackets) (p : Address) (ws newline : List ℕ)
     → line_outline (header_line brackets p ws newline) ≡ header_outline p brackets ws newline
 header_outlined One p ws newline = outlined One ws newline (names_of p)
 header_outlined Two p ws newline = outlined Two ws newline (names_of p)
@@ -167,19 +159,20 @@ header_stood Two p ws newline xs leads =
     ap₂ (λ (a : Option Address) (o : LineOutline). record { address = a; base = None; outline = o }) leads (header_outlined Two p ws newline)
 
 -- where its key leads to the address, and no key follows before the next header, it stands there, and the others stay
-pub header_stands : (brackets : Brackets) (p : Address) (front back : List Line) (ws newline : List ℕ) → own_address (named front) (header_expr brackets p ws) ≡ Some p
+header_stands : (brackets : Brackets) (p : Address) (front back : List Line) (ws newline : List ℕ) → own_address (named front) (header_expr brackets p ws) ≡ Some p
     → IsApart brackets p front back → has_pair back ≡ false
     → standing_from (named front) (length front) (header_line brackets p ws newline ∷ back)
     ≡ new_header p brackets ws newline ∷ standing_from (named front) (length front) back
 header_stands brackets p front back ws newline leads apart unkeyed =
     ap₂ (λ s t. s ∷ t) (header_stood brackets p ws newline (named front) leads) (others_stand brackets p front back ws leads apart unkeyed)
 
+-- so it is of all lines
 pub put_stands : (brackets : Brackets) (p : Address) (front back : List Line) (ws newline : List ℕ) → own_address (named front) (header_expr brackets p ws) ≡ Some p
     → IsApart brackets p front back → has_pair back ≡ false
     → standing (front ++ header_line brackets p ws newline ∷ back)
     ≡ standing front ++ new_header p brackets ws newline ∷ standing_from (named front) (length front) back
 put_stands brackets p front back ws newline leads apart unkeyed =
-    stand_append front (header_line brackets p ws newline ∷ back) []
+    standing_behind front (header_line brackets p ws newline ∷ back) []
     ∙ ap (λ t. standing front ++ t) (header_stands brackets p front back ws newline leads apart unkeyed)
 
 -- ---- the innermost element

@@ -1,10 +1,10 @@
 -- A new header line before one of the lines, or at their end: it may stand there, and what then stands on the lines.
-use Rattle.std.proofs.Common.{◌≡◌, inl, inr, ℕ, ◌==◌, true, false, ◌&&◌, Option, Some, None, List, [], ◌∷◌, ◌++◌, length, refl, sym, ap, ap₂, ◌∙◌, subst, true≢false, append-nil, append_assoc, arith}
+use Rattle.std.proofs.Common.{◌≡◌, inl, inr, ℕ, ◌==◌, true, false, ◌&&◌, Option, Some, None, List, [], ◌∷◌, ◌++◌, length, refl, sym, ap, ap₂, ◌∙◌, subst, true≢false, append-nil, append_assoc, arith, length-append, ◌⊎◌}
 use Rattle.std.specs.List.{list_any}
 use Rattle.std.specs.Prelude.{is_some, not, option_map}
 use Rattle.std.proofs.lemmas.Bool.{and_parts, cond-true}
 use Rattle.std.proofs.lemmas.Bool.Decides.{nat_tests}
-use Rattle.std.proofs.lemmas.List.{map-append}
+use Rattle.std.proofs.lemmas.List.{map-append, nil_from_length}
 use Rattle.toml_text.specs.Forms.{IsWs}
 use Rattle.toml_tree.specs.Bare.{fresh}
 use Rattle.toml_tree.specs.Spells.{AreLines}
@@ -25,18 +25,19 @@ use Rattle.toml_working.specs.InsertStanding.{end_in}
 use Rattle.toml_working.specs.Removing.{empty_line}
 use Rattle.toml_working.specs.Standing.{Standing, is_below, line_stands, standing}
 use Rattle.toml_working.specs.HeadingFollowed.{blank_at_end}
+use Rattle.toml_editor.proofs.written.BelowPlace.{standing_behind}
 use Rattle.toml_editor.proofs.written.Counted.{AreLast, counts_stay}
 use Rattle.toml_editor.proofs.written.DocumentSections.{named_next}
-use Rattle.toml_editor.proofs.written.HeaderPut.{IsApart, IsHeaderPut, ended}
+use Rattle.toml_editor.proofs.written.HeaderPut.{IsApart, IsHeaderPut, IsOneMore, ended}
 use Rattle.toml_editor.proofs.written.HeaderSplit.{BeforeEmpty, BehindLast, at_end, lines_of, stand_of}
-use Rattle.toml_editor.proofs.written.HeaderStood.{parts, put_stands, shown_lines, shown_outlined, shown_stands, stand_append}
+use Rattle.toml_editor.proofs.written.HeaderStood.{parts, put_stands, shown_lines, shown_outlined, shown_stands}
 use Rattle.toml_editor.proofs.written.InsertPlace.{IsHeadless}
 use Rattle.toml_editor.proofs.written.PutStands.{ends_same}
 
 -- ---- a line without bytes
 
 -- it has neither a key nor a header
-pub no_bytes : (l : Line) → has_no_bytes (line_outline l) ≡ true → IsHeadless l.expr × (has_pair (l ∷ []) ≡ false)
+no_bytes : (l : Line) → has_no_bytes (line_outline l) ≡ true → IsHeadless l.expr × (has_pair (l ∷ []) ≡ false)
 no_bytes l is = by l.expr is
   where
     by : (e : Expr) → has_no_bytes (line_outline (record { expr = e; newline = l.newline })) ≡ true → IsHeadless e
@@ -46,9 +47,8 @@ no_bytes l is = by l.expr is
     by (TableLine ws header tail) h = absurd (true≢false (sym h))
     by (ArrayTableLine ws header tail) h = absurd (true≢false (sym h))
 
-no_texts : (bs : List ℕ) → (length bs == 0) ≡ true → bs ≡ []
-no_texts [] h = refl
-no_texts (b ∷ bs) h = let low : length (b ∷ bs) ≡ 0 = grind (arith, nat_tests, h) in absurd (omega (arith, low))
+none_long : (bs : List ℕ) → (length bs == 0) ≡ true → bs ≡ []
+none_long bs h = nil_from_length bs (grind (arith, nat_tests, h))
 
 uncommented : (c : Option Piece) → not (is_some (option_map (λ (x : Piece). x.text) c)) ≡ true → option_map (λ (x : Piece). x.text) c ≡ None
 uncommented None h = refl
@@ -61,10 +61,10 @@ no_parts b newline is =
     let bare = not (is_some (option_map (λ (x : Piece). x.text) b.comment)) in
     let ends = and_parts ((length b.ws.text == 0) && bare) (length newline.text == 0) is in
     let texts = and_parts (length b.ws.text == 0) bare ends.0 in
-    (no_texts b.ws.text texts.0, uncommented b.comment texts.1, no_texts newline.text ends.1)
+    (none_long b.ws.text texts.0, uncommented b.comment texts.1, none_long newline.text ends.1)
 
 -- as a blank line it stands so, in each newline
-pub empty_stands : (xs : List Named) (l : Line) (newline : Piece) → has_no_bytes (line_outline l) ≡ true
+empty_stands : (xs : List Named) (l : Line) (newline : Piece) → has_no_bytes (line_outline l) ≡ true
     → line_stands xs (record { expr = l.expr; newline = newline }) ≡ blank_line newline.text
 empty_stands xs l newline is = by l.expr is
   where
@@ -115,29 +115,35 @@ blank_behind style (m ∷ k ∷ ls) l = ap (λ r. m ∷ r) (blank_behind style (
 
 -- ---- an array of which the header line stands behind all lines
 
+-- no line behind it is at the array, or below it
 pub apart_at_end : (brackets : Brackets) (p : Address) (front : List Line) → IsApart brackets p front []
 apart_at_end One p front = tt
 apart_at_end Two p front = λ q i is. refl
 
-pub apart_before_empty : (brackets : Brackets) (p : Address) (front : List Line) (l : Line) → has_no_bytes (line_outline l) ≡ true → IsApart brackets p front (l ∷ [])
+apart_before_empty : (brackets : Brackets) (p : Address) (front : List Line) (l : Line) → has_no_bytes (line_outline l) ≡ true → IsApart brackets p front (l ∷ [])
 apart_before_empty One p front l is = tt
 apart_before_empty Two p front l is = λ q i at. ap (λ s. list_any (is_below q) (s ∷ [])) (empty_stands (named front) l l.newline is)
 
-module _ (brackets : Brackets) (p : Address) (style : List ℕ) (lines : List Line) where
-  -- the lines with it, and what stands on them
-  pub record IsPlaced (put : List Line) (stand : List Standing) : Type 0 where
+-- of lines in the forms there is one
+lines_there : (ls : List Line) → AreLines ls → ¬ (ls ≡ [])
+lines_there [] are is = are
+lines_there (l ∷ ls) are is = cc
+
+-- lines in the forms are shown
+pub some_line : (lines : List Line) → AreLines lines → ¬ (shown lines ≡ [])
+some_line lines forms none = lines_there lines forms (sym (shown_lines lines (root ∷ []) 0) ∙ ap lines_of none)
+
+-- `Blank` tells when a blank line is put in before it.
+module _ (brackets : Brackets) (p : Address) (style : List ℕ) (lines : List Line) (Blank : Type 0) where
+  -- The lines with it, and what stands on them. They are one more, where no blank line is put in.
+  pub record StandsWithHeader (put : List Line) (stand : List Standing) : Type 0 where
     pub header : IsHeaderPut brackets p style lines put
     pub stands : standing put ≡ stand
+    pub more : IsOneMore lines put ⊎ Blank
 
-  pub put_as : (put put' : List Line) (stand stand' : List Standing) → put' ≡ put → stand' ≡ stand → IsPlaced put stand → IsPlaced put' stand'
-  put_as put put' stand stand' e f it = subst (λ x. IsPlaced x stand') (sym e) (subst (IsPlaced put) (sym f) it)
-
-  pub some_line : AreLines lines → ¬ (shown lines ≡ [])
-  some_line forms none = no_lines lines forms (sym (shown_lines lines (root ∷ []) 0) ∙ ap lines_of none)
-    where
-      no_lines : (ls : List Line) → AreLines ls → ¬ (ls ≡ [])
-      no_lines [] are is = are
-      no_lines (l ∷ ls) are is = cc
+  -- so it is of what is the same
+  pub stands_as : (put put' : List Line) (stand stand' : List Standing) → put' ≡ put → stand' ≡ stand → StandsWithHeader put stand → StandsWithHeader put' stand'
+  stands_as put put' stand stand' e f it = subst (λ x. StandsWithHeader x stand') (sym e) (subst (StandsWithHeader put) (sym f) it)
 
   module _ (ws : List ℕ) (spaced : AreLines lines → IsWs ws) where
     abbrev h : List ℕ → Line
@@ -150,11 +156,16 @@ module _ (brackets : Brackets) (p : Address) (style : List ℕ) (lines : List Li
     abbrev Leads : List Line → Type 0
     Leads front = own_address (named front) (header_expr brackets p ws) ≡ Some p
 
+    -- and so it does where the last of them gets a newline
+    leads_ended : (before : List Line) (last : Line) → Leads (before ++ last ∷ []) → Leads (before ++ ended style last ∷ [])
+    leads_ended before last leads =
+        ap (λ ms. own_address ms (header_expr brackets p ws)) (named_next before (ended style last) ∙ sym (named_next before last)) ∙ leads
+
     -- before one of the lines, where no key comes before the next header
-    pub put_before : (front back : List Shown) → shown lines ≡ front ++ back → ¬ (lines_of back ≡ []) → has_pair (lines_of back) ≡ false
+    pub stands_before : (front back : List Shown) → shown lines ≡ front ++ back → ¬ (lines_of back ≡ []) → has_pair (lines_of back) ≡ false
         → IsApart brackets p (lines_of front) (lines_of back) → Leads (lines_of front) → (put : List Line) (stand : List Standing)
-        → put ≡ lines_of front ++ h style ∷ lines_of back → stand ≡ stand_of front ++ new style ∷ stand_of back → IsPlaced put stand
-    put_before front back was some unkeyed apart leads put stand is stands =
+        → put ≡ lines_of front ++ h style ∷ lines_of back → stand ≡ stand_of front ++ new style ∷ stand_of back → StandsWithHeader put stand
+    stands_before front back was some unkeyed apart leads put stand is stands =
         let are = parts front back lines [] was in
         record {
           header = record {
@@ -170,28 +181,30 @@ module _ (brackets : Brackets) (p : Address) (style : List ℕ) (lines : List Li
           stands =
               ap standing is ∙ put_stands brackets p (lines_of front) (lines_of back) ws style leads apart unkeyed
               ∙ ap₂ (λ a b. a ++ new style ∷ b) are.front_stands are.back_stands ∙ sym stands;
+          more =
+              let old = ap length are.lines ∙ length-append (lines_of front) (lines_of back) in
+              let all = ap length is ∙ length-append (lines_of front) (h style ∷ lines_of back) in
+              inl (omega (arith, old, all));
         }
 
     -- before a last line without bytes
     before_empty : (it : BeforeEmpty h new style (shown lines)) → Leads (lines_of it.front)
-        → IsPlaced (line_at_end h style lines) (put_at_text_end new style (standing lines))
+        → StandsWithHeader (line_at_end h style lines) (put_at_text_end new style (standing lines))
     before_empty it leads =
-        put_before it.front (it.last ∷ []) it.was (λ none. cc) (no_bytes it.last.0 it.empty).1
+        stands_before it.front (it.last ∷ []) it.was (λ none. cc) (no_bytes it.last.0 it.empty).1
         (apart_before_empty brackets p (lines_of it.front) it.last.0 it.empty) leads _ _
         (ap (line_at_end h style) (sym (shown_lines lines (root ∷ []) 0)) ∙ it.lines)
         (ap (put_at_text_end new style) (sym (shown_stands lines (root ∷ []) 0)) ∙ it.stands)
 
     -- behind the last line
     behind_last : AreLines lines → (it : BehindLast h new style (shown lines)) → Leads (lines_of it.front ++ it.last.0 ∷ [])
-        → IsPlaced (line_at_end h style lines) (put_at_text_end new style (standing lines))
+        → StandsWithHeader (line_at_end h style lines) (put_at_text_end new style (standing lines))
     behind_last forms it leads =
         let before = lines_of it.front in
         let last = it.last.0 in
         let are = parts it.front (it.last ∷ []) lines [] it.was in
         let opened = last_open before last (subst AreLines are.lines forms) in
         let closed = before ++ ended style last ∷ [] in
-        let names : named closed ≡ named (before ++ last ∷ []) = named_next before (ended style last) ∙ sym (named_next before last) in
-        let leads_closed : Leads closed = ap (λ ms. own_address ms (header_expr brackets p ws)) names ∙ leads in
         let is : line_at_end h style lines ≡ before ++ ended style last ∷ h [] ∷ [] =
         ap (line_at_end h style) (sym (shown_lines lines (root ∷ []) 0)) ∙ it.lines ∙ ap (λ t. before ++ line_behind_last h style last t) opened in
         let here : line_stands (named before) last ≡ it.last.1 = (let x = are.back_stands in cc) in
@@ -212,23 +225,25 @@ module _ (brackets : Brackets) (p : Address) (style : List ℕ) (lines : List Li
           };
           stands =
               ap standing (is ∙ sym (append_assoc before (ended style last ∷ []) (h [] ∷ [])))
-              ∙ put_stands brackets p closed [] ws [] leads_closed (apart_at_end brackets p closed) refl
-              ∙ ap (λ s. s ++ new [] ∷ []) (stand_append before (ended style last ∷ []) [] ∙ ap₂ (λ a b. a ++ b ∷ []) are.front_stands ends)
+              ∙ put_stands brackets p closed [] ws [] (leads_ended before last leads) (apart_at_end brackets p closed) refl
+              ∙ ap (λ s. s ++ new [] ∷ []) (standing_behind before (ended style last ∷ []) [] ∙ ap₂ (λ a b. a ++ b ∷ []) are.front_stands ends)
               ∙ append_assoc (stand_of it.front) (end_in style it.last.1 ∷ []) (new [] ∷ [])
               ∙ sym (ap (put_at_text_end new style) (sym (shown_stands lines (root ∷ []) 0)) ∙ it.stands
               ∙ ap (λ t. stand_of it.front ++ put_after new style it.last.1 t) opened);
+          more =
+              let old = ap length are.lines ∙ length-append before (last ∷ []) in
+              let all = ap length is ∙ length-append before (ended style last ∷ h [] ∷ []) in
+              inl (omega (arith, old, all));
         }
 
     -- behind the last line, which has no bytes and becomes a blank one
-    pub behind_blank : (front : List Shown) (last : Shown) → shown lines ≡ front ++ last ∷ [] → has_no_bytes (line_outline last.0) ≡ true → Leads lines
-        → IsPlaced (line_at_end h style (blank_at_end style lines)) (put_at_text_end new style (put_at_text_end blank_line style (standing lines)))
-    behind_blank front (last, s) was empty leads =
+    pub stands_behind_blank : (front : List Shown) (last : Shown) → shown lines ≡ front ++ last ∷ [] → has_no_bytes (line_outline last.0) ≡ true → Leads lines → Blank
+        → StandsWithHeader (line_at_end h style (blank_at_end style lines)) (put_at_text_end new style (put_at_text_end blank_line style (standing lines)))
+    stands_behind_blank front (last, s) was empty leads blank =
         let before = lines_of front in
         let are = parts front ((last, s) ∷ []) lines [] was in
         let closed = before ++ ended style last ∷ [] in
-        let names : named closed ≡ named (before ++ last ∷ []) = named_next before (ended style last) ∙ sym (named_next before last) in
         let leads_front : Leads (before ++ last ∷ []) = subst Leads are.lines leads in
-        let leads_closed : Leads closed = ap (λ ms. own_address ms (header_expr brackets p ws)) names ∙ leads_front in
         let is : line_at_end h style (blank_at_end style lines) ≡ before ++ ended style last ∷ h style ∷ empty_line ∷ [] =
         ap (line_at_end h style)
         (ap (blank_at_end style) are.lines ∙ blank_behind style before last ∙ sym (append_assoc before (ended style last ∷ []) (empty_line ∷ [])))
@@ -256,17 +271,18 @@ module _ (brackets : Brackets) (p : Address) (style : List ℕ) (lines : List Li
           };
           stands =
               ap standing (is ∙ sym (append_assoc before (ended style last ∷ []) (h style ∷ empty_line ∷ [])))
-              ∙ put_stands brackets p closed (empty_line ∷ []) ws style leads_closed (apart_before_empty brackets p closed empty_line refl) refl
+              ∙ put_stands brackets p closed (empty_line ∷ []) ws style (leads_ended before last leads_front) (apart_before_empty brackets p closed empty_line refl) refl
               ∙ ap (λ s. s ++ new style ∷ blank_line [] ∷ [])
-              (stand_append before (ended style last ∷ []) [] ∙ ap₂ (λ a b. a ++ b ∷ []) are.front_stands (empty_stands (named before) last (fresh style) empty))
+              (standing_behind before (ended style last ∷ []) [] ∙ ap₂ (λ a b. a ++ b ∷ []) are.front_stands (empty_stands (named before) last (fresh style) empty))
               ∙ append_assoc (stand_of front) (blank_line style ∷ []) (new style ∷ blank_line [] ∷ []) ∙ sym put;
+          more = inr blank;
         }
 
-    -- at the end, where it leads to the address, if each index on the way is that of the last table of its array
-    pub end_put : (way : Address) → AreLines lines
-        → ((front back : List Line) → lines ≡ front ++ back → AreLast (named front) way → IsApart brackets p front back → Leads front) → AreLast (named lines) way
-        → IsPlaced (line_at_end h style lines) (put_at_text_end new style (standing lines))
-    end_put way forms leads last = elim (at_end h new style (shown lines) (shown_outlined lines (root ∷ []) 0) (some_line forms)) [
+    -- at the end, where it leads to the address, if each index in `q` is that of the last table of its array
+    pub stands_at_end : (q : Address) → AreLines lines
+        → ((front back : List Line) → lines ≡ front ++ back → AreLast (named front) q → IsApart brackets p front back → Leads front) → AreLast (named lines) q
+        → StandsWithHeader (line_at_end h style lines) (put_at_text_end new style (standing lines))
+    stands_at_end q forms leads last = elim (at_end h new style (shown lines) (shown_outlined lines (root ∷ []) 0) (some_line lines forms)) [
       | inl it ↦
           let front = lines_of it.front in
           let are = parts it.front (it.last ∷ []) lines [] it.was in
@@ -277,5 +293,5 @@ module _ (brackets : Brackets) (p : Address) (style : List ℕ) (lines : List Li
       | inr it ↦
           let front = lines_of it.front ++ it.last.0 ∷ [] in
           let are = parts it.front (it.last ∷ []) lines [] it.was in
-          behind_last forms it (leads front [] (are.lines ∙ sym (append-nil front)) (subst (λ ls. AreLast (named ls) way) are.lines last) (apart_at_end brackets p front))
+          behind_last forms it (leads front [] (are.lines ∙ sym (append-nil front)) (subst (λ ls. AreLast (named ls) q) are.lines last) (apart_at_end brackets p front))
     ]

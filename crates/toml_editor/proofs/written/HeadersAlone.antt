@@ -24,7 +24,7 @@ use Rattle.toml_editor.proofs.written.DocumentSections.{IsLineOf, headed_at, lin
 use Rattle.toml_editor.proofs.written.OneSection.{among_of}
 use Rattle.toml_editor.proofs.written.Pairwise.{Goes, Has, PairsAre, from_has, has_append_left, has_append_right, has_of_any, pairs_of_all}
 
-lower : (m n : ℕ) → nat_lt m n ≡ true → m < n
+pub lower : (m n : ℕ) → nat_lt m n ≡ true → m < n
 lower m n is = grind (arith, nat_tests)
 
 -- two mentions of one address that do not go with each other are not both there

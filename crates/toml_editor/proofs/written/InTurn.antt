@@ -1,9 +1,9 @@
 -- The header lines of the elements of an array of tables stand in turn.
 use Rattle.std.proofs.Common.{◌≡◌, ◌∙◌, inl, inr, ℕ, ◌+◌, ◌<◌, Bool, true, false, Option, Some, None, List, [], ◌∷◌, ◌++◌, refl, sym, ap, append_assoc, arith}
+use Rattle.std.proofs.lemmas.List.{same_from_push}
 use Rattle.std.specs.Bool.{nat_lt}
 use Rattle.std.specs.Prelude.{option_map}
 use Rattle.std.proofs.lemmas.Bool.{and_parts}
-use Rattle.std.proofs.lemmas.Bool.Decides.{nat_tests}
 use Rattle.std.proofs.lemmas.Option.{same_Some}
 use Rattle.toml_tree.specs.Tree.{Expr, BlankLine, KeyValLine, TableLine, ArrayTableLine, Line}
 use Rattle.toml_names.specs.declared.model.address.Step.{Step}
@@ -16,36 +16,22 @@ use Rattle.toml_units.specs.Units.{line_base}
 use Rattle.toml_layout.specs.Beginnings.{begins}
 use Rattle.toml_layout.specs.declared.layout.Layout.TheVariants as layouts
 use Rattle.toml_working.specs.HeaderStanding.{ElementIn}
-use Rattle.toml_working.specs.Headers.{ElementStands, StandInTurn, begins_later, element_of, has_below, inner_of, innermost, is_later, later_in}
+use Rattle.toml_working.specs.Headers.{ElementStands, StandInTurn, begins_later, element_of, has_below, innermost, is_later, later_in}
 use Rattle.toml_working.specs.Seeing.{heads, heads_below, is_sought_line}
 use Rattle.toml_working.specs.Standing.{Standing, standing}
 use Rattle.toml_working.specs.declared.lines.Sought.TheVariants as sought
-use Rattle.toml_editor.specs.HeadersInTurn.{HeaderIsTaken}
+use Rattle.toml_editor.specs.HeaderLaws.{HeaderIsTaken}
 use Rattle.toml_editor.proofs.written.Clear.{same_is}
-use Rattle.toml_editor.proofs.written.Counted.{counts_grow, own_counts, same_last}
+use Rattle.toml_editor.proofs.written.Counted.{counts_grow, own_counts}
 use Rattle.toml_editor.proofs.written.CountedArrays.{element_unnamed, end_named}
 use Rattle.toml_editor.proofs.written.DocumentSections.{IsLineOf, headed_at, line_of}
+use Rattle.toml_editor.proofs.written.ElementHeaded.{inner_is}
+use Rattle.toml_editor.proofs.written.HeadersAlone.{lower}
 use Rattle.toml_editor.proofs.written.InsertStands.{root_comes_first}
 use Rattle.toml_editor.proofs.written.OneSection.{among_of}
 use Rattle.toml_editor.proofs.written.StandingOrder.{begins_is}
 
 -- ---- addresses
-
--- an element of an array
-abbrev IsElement : Address → Type 0
-IsElement e = (r : Address) × (i : ℕ) × (e ≡ element r i)
-
--- the innermost element is one
-inner_element : (q e : Address) → innermost q ≡ Some e → IsElement e
-inner_element [] e is = absurd cc
-inner_element (s ∷ steps) e is = by (innermost steps) refl s is (inner_element steps)
-  where
-    by : (o : Option Address) → innermost steps ≡ o → (t : Step) → inner_of o t ≡ Some e → ((a : Address) → innermost steps ≡ Some a → IsElement a) → IsElement e
-    by (Some inner) there t here again =
-        let more = again inner there in
-        (t ∷ more.0, more.1, sym (same_Some (t ∷ inner) e here) ∙ ap (λ a. t ∷ a) more.2)
-    by None there (Name n) here again = absurd cc
-    by None there (Index i) here again = ([], i, sym (same_Some (Index i ∷ []) e here))
 
 abbrev element_at : Address × ℕ → Address
 element_at p = element p.0 p.1
@@ -68,9 +54,6 @@ element_is (s ∷ t ∷ steps) r i is = by (element_of (t ∷ steps)) refl is (e
     by None there here again = absurd cc
     by (Some (array, index)) there here again = ap (λ a. s ∷ a) (again array index there) ∙ element_same (s ∷ array, index) (r, i) here
 
-lower : (m n : ℕ) → nat_lt m n ≡ true → m < n
-lower m n is = grind (arith, nat_tests)
-
 module _ (e r : Address) (i : ℕ) (e_is : e ≡ element r i) where
   -- an address at the element or below it
   below_element : (a : Address) → begins e a ≡ true → (rest : Address) × (a ≡ r ++ Index i ∷ rest)
@@ -88,7 +71,7 @@ module _ (e r : Address) (i : ℕ) (e_is : e ≡ element r i) where
       by (Some (array, index)) first None second later = absurd cc
       by (Some (array, index)) first (Some (other, number)) second later =
           let (low, same) = and_parts (nat_lt index number) (same_address other array) later in
-          let one = same_last r array (Index i) (Index index) (sym e_is ∙ element_is e array index first) in
+          let one = same_from_push r array (Index i) (Index index) (sym e_is ∙ element_is e array index first) in
           let index_is = one.1 in
           let index_same : i ≡ index = cc in
           (number, (let h = lower index number low in omega (arith, h, index_same)),
@@ -120,7 +103,7 @@ header_index xs (TableLine ws header tail) r i base own =
     absurd (element_unnamed r i (named_last.0, named_last.1, sym (same_Some _ (element r i) own) ∙ named_last.2))
 header_index xs (ArrayTableLine ws header tail) r i base own =
     let at = header_end xs [] (part_name header.key.first ∷ rest_names header.key.rest) in
-    let same = same_last at r (Index (count_tables xs at)) (Index i) (same_Some _ (element r i) own) in
+    let same = same_from_push at r (Index (count_tables xs at)) (Index i) (same_Some _ (element r i) own) in
     let index_is = same.1 in
     let index : count_tables xs at ≡ i = cc in
     sym (ap (count_tables xs) same.0) ∙ index
@@ -213,7 +196,7 @@ header_is_taken layout q lines are keeps =
   where
     inner : (o : Option Address) → innermost q ≡ o → ElementStands o (standing lines)
     inner None is = tt
-    inner (Some e) is = let element_there = inner_element q e is in stand_in_turn lines e element_there.0 element_there.1 element_there.2
+    inner (Some e) is = let it = inner_is q e is in stand_in_turn lines e it.array it.index it.is
 
     by : (l : _) → ElementIn l q (standing lines)
     by layouts.Plain = inner (innermost q) refl

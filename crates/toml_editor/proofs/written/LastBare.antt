@@ -1,8 +1,8 @@
 -- Where the text of lines ends in a newline, the last of their units that is a line has no bytes.
-use Rattle.std.proofs.Common.{◌≡◌, inl, inr, ◌<◌, ◌+◌, ℕ, Bool, true, false, Option, Some, None, List, [], ◌∷◌, ◌++◌, map, length, refl, sym, ap, ap₂, ◌∙◌, subst, true≢false, arith, append-nil}
+use Rattle.std.proofs.Common.{◌≡◌, ◌+◌, ℕ, true, Option, Some, None, List, [], ◌∷◌, ◌++◌, map, length, refl, sym, ap, ap₂, ◌∙◌, subst, arith, append-nil}
 use Rattle.std.specs.Prelude.{is_some}
 use Rattle.toml_tree.specs.Spells.{AreLines, IsExpr, expr_parts, joined, lines_parts}
-use Rattle.toml_tree.specs.Tree.{Blank, Expr, BlankLine, KeyValLine, TableLine, ArrayTableLine, Line, Piece}
+use Rattle.toml_tree.specs.Tree.{Expr, BlankLine, KeyValLine, TableLine, ArrayTableLine, Line, Piece}
 use Rattle.toml_names.specs.mentions.Mentions.{Named, named_by, root}
 use Rattle.toml_units.specs.Bares.{bare_unit}
 use Rattle.toml_units.specs.declared.unit.UnitKind.TheVariants as kinds
@@ -78,6 +78,7 @@ last_of : (front : List Line) (l : Line) (xs : List Named) (n : ℕ) → IsExpr 
 last_of [] l xs n form none = subst LastIsBare (sym (append-nil (line_units xs l.expr))) (bare_line xs l.expr form none)
 last_of (m ∷ front) l xs n form none = bare_append (line_units xs m.expr) _ (last_of front l (xs ++ named_by xs n m.expr) (n + 1) form none)
 
+-- Where the text ends in a newline, it is so of its units.
 pub last_is_bare : (lines : List Line) → AreLines lines → ends_in_newline (joined (lines_parts lines)) ≡ true → LastIsBare (units lines)
 last_is_bare lines forms ends =
     let (front, l, is, none, ended) = ends_bare lines forms ends in

@@ -33,7 +33,7 @@ followed_plain ms (k ∷ l ∷ more) n e f at same = ap (λ r. table_at 0 Passed
 abbrev one_pair : Assign → Value → Value
 one_pair a v = Inline (fresh []) (LastPair (record { lines = []; ws = fresh [] }) a v (record { lines = []; ws = fresh [] }))
 
-pub line_plain : (ms : List Named) (n : ℕ) (e : Expr) → map unnumbered (named_by ms n e) ≡ named_by ms 0 e
+line_plain : (ms : List Named) (n : ℕ) (e : Expr) → map unnumbered (named_by ms n e) ≡ named_by ms 0 e
 line_plain ms n (BlankLine b) = refl
 line_plain ms n (KeyValLine ws pair tail) = sym (inside_moves 0 n (one_pair pair.assign pair.value) [] (section ms))
 line_plain ms n (TableLine ws header tail) = followed_plain ms (key_names header.key) n (ends_table n) (ends_table 0) [] (λ here. refl)

@@ -20,7 +20,7 @@ use Rattle.toml_editor.specs.Blocks.{IsPut, named_plain, passed_from, section_bl
 use Rattle.toml_editor.proofs.written.EmptyAlone.{first_under}
 use Rattle.toml_editor.proofs.written.HeaderCounted.{Enters, enters, same_behind}
 use Rattle.toml_editor.proofs.written.HeaderLeads.{key_again}
-use Rattle.toml_editor.proofs.written.HeaderPut.{IsHeaderPut, IsPutBefore, IsSectionPut, ended}
+use Rattle.toml_editor.proofs.written.HeaderPut.{IsHeaderPut, IsPutBefore, ended}
 use Rattle.toml_editor.proofs.written.Plain.{behind, plain_alike, plain_is, plain_parts}
 
 -- ---- the key
@@ -52,15 +52,15 @@ header_names_some Two p ws xs leads =
 -- ---- what a key passes
 
 -- a key leads to what begins with its first name
-pub end_under : (xs : List Named) (ns : Key) (at : Address) (n : List ℕ) → (r : Address) × (header_end xs at (n ∷ ns) ≡ at ++ Name n ∷ r)
-end_under xs ns at n = let (r, is) = first_under xs ns n at in (r, is ∙ append_assoc at (Name n ∷ []) r)
+pub end_behind_name : (xs : List Named) (ns : Key) (at : Address) (n : List ℕ) → (r : Address) × (header_end xs at (n ∷ ns) ≡ at ++ Name n ∷ r)
+end_behind_name xs ns at n = let (r, is) = first_under xs ns n at in (r, is ∙ append_assoc at (Name n ∷ []) r)
 
 -- and so to no index first
-no_index : (xs : List Named) (key : Key) (at : Address) (i : ℕ) (rest : Address) → header_end xs at key ≡ at ++ Index i ∷ rest → ⊥
-no_index xs [] at i rest is =
+no_index_first : (xs : List Named) (key : Key) (at : Address) (i : ℕ) (rest : Address) → header_end xs at key ≡ at ++ Index i ∷ rest → ⊥
+no_index_first xs [] at i rest is =
     let e : ◌≡◌ {A = Address} [] (Index i ∷ rest) = append_cancel_left at [] (Index i ∷ rest) (append-nil at ∙ is) in cc
-no_index xs (n ∷ ns) at i rest is =
-    let (r, under) = end_under xs ns at n in
+no_index_first xs (n ∷ ns) at i rest is =
+    let (r, under) = end_behind_name xs ns at n in
     let e : ◌≡◌ {A = Address} (Name n ∷ r) (Index i ∷ rest) = append_cancel_left at (Name n ∷ r) (Index i ∷ rest) (sym under ∙ is) in cc
 
 module _ (xs : List Named) (end : Address → List Named) where
@@ -75,7 +75,7 @@ module _ (xs : List Named) (end : Address → List Named) where
   passes_table at n m steps is = by (enters xs (child at n))
     where
       under : (r : Address) × (header_end xs (entered xs (child at n)) (m ∷ names_of steps) ≡ entered xs (child at n) ++ Name m ∷ r)
-      under = end_under xs (names_of steps) (entered xs (child at n)) m
+      under = end_behind_name xs (names_of steps) (entered xs (child at n)) m
 
       by : Enters xs (child at n) → entered xs (child at n) ≡ child at n
       by (inl e) = e
@@ -92,7 +92,7 @@ module _ (xs : List Named) (end : Address → List Named) where
   passes_element at n i steps m ms is = by (enters xs (child at n))
     where
       under : (r : Address) × (header_end xs (entered xs (child at n)) (m ∷ ms) ≡ entered xs (child at n) ++ Name m ∷ r)
-      under = end_under xs ms (entered xs (child at n)) m
+      under = end_behind_name xs ms (entered xs (child at n)) m
 
       whole : entered xs (child at n) ++ Name m ∷ under.0 ≡ child at n ++ Index i ∷ steps
       whole = sym under.1 ∙ is ∙ sym (append_assoc at (Name n ∷ []) (Index i ∷ steps))
@@ -112,7 +112,7 @@ module _ (xs : List Named) (end : Address → List Named) where
   -- a key that leads to the address names what the address passes
   pub follows : (steps at : Address) → Leads at steps → Names at steps
   follows [] at is = refl
-  follows (Index i ∷ steps) at is = absurd (no_index xs (names_of steps) at i steps is)
+  follows (Index i ∷ steps) at is = absurd (no_index_first xs (names_of steps) at i steps is)
   follows (Name n ∷ []) at is = refl
   follows (Name n ∷ Name m ∷ steps) at is =
       let e = passes_table at n m steps is in
@@ -127,7 +127,7 @@ module _ (xs : List Named) (end : Address → List Named) where
 
       by : (key : Key) → names_of steps ≡ key → (Leads (element (child at n) i) steps → Names (element (child at n) i) steps) → Goal
       by [] none more =
-          absurd (no_index xs [] (child at n) i steps (ap (λ k. header_end xs at (n ∷ k)) (sym none) ∙ is ∙ sym (append_assoc at (Name n ∷ []) (Index i ∷ steps))))
+          absurd (no_index_first xs [] (child at n) i steps (ap (λ k. header_end xs at (n ∷ k)) (sym none) ∙ is ∙ sym (append_assoc at (Name n ∷ []) (Index i ∷ steps))))
       by (m ∷ ms) some more =
           let to = element (child at n) i in
           let leads : header_end xs at (n ∷ m ∷ ms) ≡ at ++ Name n ∷ Index i ∷ steps = ap (λ k. header_end xs at (n ∷ k)) (sym some) ∙ is in
@@ -149,7 +149,7 @@ ended_names style last ls [] xs = refl
 ended_names style last ls (l ∷ before) xs = ap (λ r. named_by xs 0 l.expr ++ r) (ended_names style last ls before (xs ++ named_by xs 0 l.expr))
 
 -- what the header names is put between what the lines in front and those behind it name
-pub record IsPutThere (block : List Named) (front back old new : List Line) : Type 0 where
+pub record IsNamedBetween (block : List Named) (front back old new : List Line) : Type 0 where
   pub was : named_plain old ≡ named_plain front ++ behind (named_plain front) back
   pub is : named_plain new ≡ named_plain front ++ (block ++ behind (named_plain front) back)
 
@@ -168,7 +168,7 @@ module _ (brackets : Brackets) (p : Address) (style : List ℕ) (old new : List 
   put_block = named_by xs 0 (header_expr brackets p put.ws)
 
   abbrev There : Type 0
-  There = IsPutThere put_block front put.back old new
+  There = IsNamedBetween put_block front put.back old new
 
   -- behind it the same is named
   same : behind (xs ++ put_block) put.back ≡ behind xs put.back
@@ -199,8 +199,8 @@ module _ (brackets : Brackets) (p : Address) (style : List ℕ) (old new : List 
       regrouped = sym (append_assoc before (last ∷ []) (line newline ∷ rest)) ∙ ap (λ ls. ls ++ line newline ∷ rest) (sym front_is)
 
   -- It stands where the header does.
-  pub put_there : There
-  put_there = elim put.put [
+  pub named_between : There
+  named_between = elim put.put [
     | inl at ↦ put_before at
     | inr (inl at) ↦ put_end at.before at.last [] [] at.front_is at.none at.was at.is (λ ys. refl)
     | inr (inr at) ↦ put_end at.before at.last style (empty_line ∷ []) at.front_is at.none at.was at.is (λ ys. refl)
@@ -208,11 +208,16 @@ module _ (brackets : Brackets) (p : Address) (style : List ℕ) (old new : List 
 
   -- the new lines name what the old ones did, and in one place what the new header names
   pub put_names : (block : List Named) → put_block ≡ block → IsPut (named_plain old) block (named_plain new)
-  put_names block are = record { front = xs; back = behind xs put.back; before = put_there.was; after = put_there.is ∙ ap (λ b. xs ++ (b ++ behind xs put.back)) are }
+  put_names block are = record {
+    front = xs;
+    back = behind xs put.back;
+    before = named_between.was;
+    after = named_between.is ∙ ap (λ b. xs ++ (b ++ behind xs put.back)) are;
+  }
 
 -- ---- sections
 
-module _ (p : Address) (style : List ℕ) (old new : List Line) (put : IsSectionPut p style old new) where
+module _ (p : Address) (style : List ℕ) (old new : List Line) (put : IsHeaderPut One p style old new) where
   -- the new header's key leads to the address
   pub section_leads : header_end (named put.front) [] (names_of p) ≡ p
   section_leads =
@@ -227,7 +232,7 @@ module _ (p : Address) (style : List ℕ) (old new : List Line) (put : IsSection
       ∙ follows (named put.front) (ends_table 0) p [] section_leads
 
 -- The new lines name what the old ones did, and in one place what the new header names.
-pub section_names : (q : Address) (name style : List ℕ) (old new : List Line) → IsSectionPut (child q name) style old new
+pub section_is_put : (q : Address) (name style : List ℕ) (old new : List Line) → IsHeaderPut One (child q name) style old new
     → IsPut (named_plain old) (section_block (child q name)) (named_plain new)
-section_names q name style old new put =
+section_is_put q name style old new put =
     put_names One (child q name) style old new put (section_block (child q name)) (section_named (child q name) style old new put)

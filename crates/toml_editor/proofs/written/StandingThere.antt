@@ -1,5 +1,6 @@
 -- A value that stands on one of the lines, or in its value, is one that they name.
-use Rattle.std.proofs.Common.{◌≡◌, ◌⊎◌, inl, inr, ℕ, ◌+◌, Bool, true, false, ◌||◌, List, [], ◌∷◌, ◌++◌, refl, subst, true≢false, sym}
+use Rattle.std.proofs.Common.{◌≡◌, inl, inr, ℕ, ◌+◌, true, false, List, [], ◌∷◌, ◌++◌, refl, subst, true≢false, sym}
+use Rattle.std.proofs.lemmas.Bool.{or_cases}
 use Rattle.std.specs.List.{list_any}
 use Rattle.toml_tree.specs.Tree.{Piece, Assign, Value, Scalar, Array, Inline, Items, Close, Last, More, Pairs, ClosePairs, LastPair, MorePairs, Expr, BlankLine, KeyValLine, TableLine, ArrayTableLine, Line}
 use Rattle.toml_names.specs.declared.mentions.mention.Role.{Role}
@@ -16,10 +17,6 @@ use Rattle.toml_editor.proofs.SetOutlined.{names_outlined}
 use Rattle.toml_editor.proofs.written.Clear.{same_is}
 use Rattle.toml_editor.proofs.written.Pairwise.{Has, any_of_has, has_append_left, has_append_right}
 
-either_of : (a b : Bool) → (a || b) ≡ true → (a ≡ true) ⊎ (b ≡ true)
-either_of true b is = inl refl
-either_of false b is = inr is
-
 module _ (p : Address) where
   abbrev IsThere : Named → Type 0
   IsThere m = (m.address ≡ p) × (is_lone m.role ≡ true)
@@ -29,7 +26,7 @@ module _ (p : Address) where
       → (has_within p at (value_outline v) ≡ true → Has IsThere (inside n at v))
       → has_outline p at (value_outline v) ≡ true → Has IsThere (value_named n role at v ∷ inside n at v)
   value_there v n role at lone within is =
-      elim (either_of (same_address at p) (has_within p at (value_outline v)) is) [
+      elim (or_cases (same_address at p) (has_within p at (value_outline v)) is) [
         | inl same ↦ inl (same_is at p same, lone)
         | inr k ↦ inr (within k)
       ]
@@ -53,12 +50,12 @@ module _ (p : Address) where
     items_there : (items : Items) (n : ℕ) (at : Address) (i : ℕ) → has_listed p at i (items_outline items) ≡ true → Has IsThere (elements n at i items)
     items_there (Close g) n at i is = absurd (true≢false (sym is))
     items_there (Last g v b) n at i is =
-        elim (either_of (has_outline p (element at i) (value_outline v)) false is) [
+        elim (or_cases (has_outline p (element at i) (value_outline v)) false is) [
           | inl k ↦ value_there v n Bare (element at i) refl (within_there v n (element at i)) k
           | inr none ↦ absurd (true≢false (sym none))
         ]
     items_there (More g v b more) n at i is =
-        elim (either_of (has_outline p (element at i) (value_outline v)) (has_listed p at (i + 1) (items_outline more)) is) [
+        elim (or_cases (has_outline p (element at i) (value_outline v)) (has_listed p at (i + 1) (items_outline more)) is) [
           | inl k ↦ has_append_left IsThere (value_named n Bare (element at i) v ∷ inside n (element at i) v) _
               (value_there v n Bare (element at i) refl (within_there v n (element at i)) k)
           | inr k ↦ has_append_right IsThere (value_named n Bare (element at i) v ∷ inside n (element at i) v) _ (items_there more n at (i + 1) k)
@@ -67,13 +64,13 @@ module _ (p : Address) where
     pairs_there : (pairs : Pairs) (n : ℕ) (at : Address) → has_braced p at (pairs_outline pairs) ≡ true → Has IsThere (members n at pairs)
     pairs_there (ClosePairs g) n at is = absurd (true≢false (sym is))
     pairs_there (LastPair g a v b) n at is =
-        elim (either_of (has_outline p (below at (outlined_names (assign_outline a))) (value_outline v)) false is) [
+        elim (or_cases (has_outline p (below at (outlined_names (assign_outline a))) (value_outline v)) false is) [
           | inl k ↦ pair_there a v n at (within_there v n (below at (key_names a.key))) k
           | inr none ↦ absurd (true≢false (sym none))
         ]
     pairs_there (MorePairs g a v b ps) n at is =
         let to = below at (key_names a.key) in
-        elim (either_of (has_outline p (below at (outlined_names (assign_outline a))) (value_outline v)) (has_braced p at (pairs_outline ps)) is) [
+        elim (or_cases (has_outline p (below at (outlined_names (assign_outline a))) (value_outline v)) (has_braced p at (pairs_outline ps)) is) [
           | inl k ↦ has_append_left IsThere (fronts n at (key_names a.key) ++ (value_named n Valued to v ∷ inside n to v)) _
               (pair_there a v n at (within_there v n to) k)
           | inr k ↦ has_append_right IsThere (fronts n at (key_names a.key) ++ (value_named n Valued to v ∷ inside n to v)) _ (pairs_there ps n at k)
@@ -97,7 +94,7 @@ module _ (p : Address) where
   lines_there : (ls : List Line) (xs : List Named) (n : ℕ) → list_any (has p) (standing_from xs n ls) ≡ true → Has IsThere (named_from xs n ls)
   lines_there [] xs n is = absurd (true≢false (sym is))
   lines_there (l ∷ ls) xs n is =
-      elim (either_of (has p (line_stands xs l)) (list_any (has p) (standing_from (xs ++ named_by xs n l.expr) (n + 1) ls)) is) [
+      elim (or_cases (has p (line_stands xs l)) (list_any (has p) (standing_from (xs ++ named_by xs n l.expr) (n + 1) ls)) is) [
         | inl here ↦ earlier_there ls (xs ++ named_by xs n l.expr) (n + 1)
             (has_append_right IsThere xs (named_by xs n l.expr) (line_there xs n l.expr l.newline here))
         | inr later ↦ lines_there ls (xs ++ named_by xs n l.expr) (n + 1) later

@@ -1,5 +1,6 @@
 -- Plain edits, from text to text.
 use Rattle.std.proofs.Common.{◌≡◌, ◌⊎◌, inl, inr, ℕ, ◌+◌, ◌<◌, List, [], ◌∷◌, ◌++◌, length, Some, None, IsSome, refl, sym, ap, ap₂, ◌∙◌, subst, subst₂}
+use Rattle.std.proofs.lemmas.List.{same_from_push}
 use Rattle.std.specs.Prelude.{◌↔◌}
 use Rattle.toml_text.specs.Forms.{IsNewline}
 use Rattle.toml_tree.specs.Places.{put_lines, put_doc}
@@ -32,6 +33,7 @@ use Rattle.toml_editor.specs.Steps.{IsGoodText, IsPlain, GoodTextsAreDocuments, 
 use Rattle.toml_editor.specs.EditedLines.{AreEdited, IsWritten, header_put_in, manner_after}
 use Rattle.toml_editor.proofs.Mannered.{keeps_newline}
 use Rattle.toml_editor.proofs.written.Fitting.{all_fit, keeps_value, unnamed, last_step}
+use Rattle.toml_editor.proofs.written.HeaderFormed.{header_forms, header_of_profile}
 use Rattle.toml_editor.proofs.written.InsertFormed.{insert_forms}
 use Rattle.toml_editor.proofs.written.InsertKept.{insert_rules, insert_short, insert_data}
 use Rattle.toml_editor.proofs.written.Members.{same_member}
@@ -40,12 +42,9 @@ use Rattle.toml_editor.proofs.written.RemoveKept.{remove_forms}
 use Rattle.toml_editor.proofs.written.RemovedEither.{remove_data, remove_good}
 use Rattle.toml_editor.proofs.written.RenameFormed.{rename_forms}
 use Rattle.toml_editor.proofs.written.RenameKept.{rename_good, rename_data}
-use Rattle.toml_editor.proofs.written.Counted.{same_last}
-use Rattle.toml_editor.proofs.written.ElementFacts.{element_room}
-use Rattle.toml_editor.proofs.written.ElementKept.{element_data, element_forms, element_of_profile, element_rules, element_short}
-use Rattle.toml_editor.proofs.written.HeaderGoes.{element_put, section_put}
-use Rattle.toml_editor.proofs.written.SectionFacts.{section_room}
-use Rattle.toml_editor.proofs.written.SectionFormed.{section_forms, section_of_profile}
+use Rattle.toml_editor.proofs.written.HeaderFacts.{element_room, section_room}
+use Rattle.toml_editor.proofs.written.ElementKept.{element_data, element_rules, element_short}
+use Rattle.toml_editor.proofs.written.HeaderLaidOut.{element_laid_out, section_laid_out}
 use Rattle.toml_editor.proofs.written.SectionKept.{section_data, section_rules, section_short}
 use Rattle.toml_editor.proofs.written.SetFormed.{set_forms}
 use Rattle.toml_editor.proofs.written.SetKept.{set_rules, set_short, set_data}
@@ -123,12 +122,12 @@ module _ (profile : Profile) (manner : Manner) (newline : IsNewline manner.newli
       })
   edited (new_section p) now new none after (q, name, at, outside, made) =
       let room = section_room profile q name old (subst (λ x. IsFault profile (new_section x) old None) at none) in
-      let put = (section_put q name manner lines old forms good.0 is room outside).header in
+      let put = (section_laid_out q name manner lines old forms good.0 is room outside).header in
       let edited = header_put_in manner.layout q One (child q name) manner lines in
       subst (AreNew profile (new_section p) old) (sym made)
       (subst (λ x. AreNew profile (new_section x) old (header_put_in manner.layout q One x manner lines)) (sym at) (record {
-        forms = section_forms q name manner.newline lines edited put forms newline;
-        profiled = section_of_profile profile q name manner.newline lines edited put profiled;
+        forms = header_forms One (child q name) manner.newline lines edited put forms newline;
+        profiled = header_of_profile profile One (child q name) manner.newline lines edited put profiled;
         good = (
           section_rules q name manner.newline lines edited old put good.0 is room.table room.free outside,
           section_short q name manner.newline lines edited put good.1 room.short,
@@ -137,12 +136,12 @@ module _ (profile : Profile) (manner : Manner) (newline : IsNewline manner.newli
       }))
   edited (new_element p) now new none after (q, i, at, outside, made) =
       let room = element_room profile q i old (lines_are_closed lines old good.0 is) (subst (λ x. IsFault profile (new_element x) old None) at none) in
-      let put = (element_put q i manner lines old forms good.0 is room outside).header in
+      let put = (element_laid_out q i manner lines old forms good.0 is room outside).header in
       let edited = header_put_in manner.layout q Two (element q i) manner lines in
       subst (AreNew profile (new_element p) old) (sym made)
       (subst (λ x. AreNew profile (new_element x) old (header_put_in manner.layout q Two x manner lines)) (sym at) (record {
-        forms = element_forms q i manner.newline lines edited put forms newline;
-        profiled = element_of_profile profile q i manner.newline lines edited put profiled;
+        forms = header_forms Two (element q i) manner.newline lines edited put forms newline;
+        profiled = header_of_profile profile Two (element q i) manner.newline lines edited put profiled;
         good = (element_rules q i manner.newline lines edited old put good.0 is room outside, element_short q i manner.newline lines edited put good.1 room.short);
         after = λ kinds is'. element_data profile q i manner.newline lines edited old kinds put good.0 is room is';
       }))
@@ -207,7 +206,7 @@ one_edited profile (remove p) manner old one two (there, is) (there', is') = is 
 one_edited profile (new_section p) manner old one two (q, m, at, outside, is) (r, n, at', outside', is') =
     let (tables, names) = same_member q r m n (sym at ∙ at') in is ∙ ap (λ t. header_put_in manner.layout t One p manner old) tables ∙ sym is'
 one_edited profile (new_element p) manner old one two (q, i, at, outside, is) (r, j, at', outside', is') =
-    let arrays = (same_last q r (Index i) (Index j) (sym at ∙ at')).0 in is ∙ ap (λ t. header_put_in manner.layout t Two p manner old) arrays ∙ sym is'
+    let arrays = (same_from_push q r (Index i) (Index j) (sym at ∙ at')).0 in is ∙ ap (λ t. header_put_in manner.layout t Two p manner old) arrays ∙ sym is'
 
 pub one_written : OneWritten
 one_written profile c manner before one two (d, spells, new, made, text) (e, spells', new', made', text') =

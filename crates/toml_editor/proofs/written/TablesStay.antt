@@ -1,9 +1,10 @@
 -- Where the table right above a value stays without the line of the value, so do the tables that the line's key makes.
 use Rattle.std.proofs.Common.{◌≡◌, ◌∙◌, ◌⊎◌, inl, inr, ℕ, suc, ◌+◌, ◌-◌, ◌==◌, ◌<◌, ◌≤◌, Bool, true, false, cond, ◌&&◌, ◌||◌, Option, Some, None, List, [], ◌∷◌, ◌++◌, map, length, length-append, take, refl, sym, ap, ap₂, subst, append_assoc, append-nil, true≢false, arith}
+use Rattle.std.proofs.Math.Bool.{and-false}
 use Rattle.std.specs.Bool.{nat_lt}
 use Rattle.std.specs.List.{list_any}
 use Rattle.std.specs.Prelude.{flat_map, not, IfSome, IsSome}
-use Rattle.std.proofs.lemmas.Bool.{and_parts, eqb-true}
+use Rattle.std.proofs.lemmas.Bool.{and_parts, eqb-true, or_cases}
 use Rattle.std.proofs.lemmas.Bool.Decides.{nat_tests}
 use Rattle.std.proofs.lemmas.List.{take-append-le, take_all}
 use Rattle.std.proofs.lemmas.Option.{same_Some}
@@ -38,20 +39,16 @@ use Rattle.toml_editor.proofs.written.RemoveStanding.{taken_stands}
 use Rattle.toml_editor.proofs.written.StandingOrder.{begins_is}
 use Rattle.toml_editor.proofs.written.Unplain.{plain_has}
 
-pub either : (a b : Bool) → (a || b) ≡ true → (a ≡ true) ⊎ (b ≡ true)
-either true b is = inl refl
-either false b is = inr is
-
 or_true : (b : Bool) → (b || true) ≡ true
 or_true true = refl
 or_true false = refl
 
-and_false : (b : Bool) → (b && false) ≡ false
-and_false true = refl
-and_false false = refl
-
 pub begins_self : (a : Address) → begins a a ≡ true
 begins_self a = ap (begins a) (sym (append-nil a)) ∙ begins_longer a []
+
+-- what lies at an address or below it begins with it
+pub under_begins : (q a : Address) → IsUnder q a → begins q a ≡ true
+under_begins q a (rest, is) = ap (begins q) is ∙ begins_longer q rest
 
 -- the line of a value stands at its address
 pub value_below : (p : Address) (base : Option ℕ) (own : Option Address) → is_value_at p base own ≡ true → lies_below p own ≡ true
@@ -62,9 +59,9 @@ value_below p (Some n) (Some a) is = subst (λ x. begins x a ≡ true) (same_is 
 module _ (p q : Address) where
   -- a line that makes the table beside the value stays
   gone_makes_none : (s : Standing) → is_pair p s ≡ true → makes_beside q p s ≡ false
-  gone_makes_none s is = ap (λ b. makes q s.base s.address && not b) (value_below p s.base s.address is) ∙ and_false (makes q s.base s.address)
+  gone_makes_none s is = ap (λ b. makes q s.base s.address && not b) (value_below p s.base s.address is) ∙ and-false (makes q s.base s.address)
 
-  pub makers_stay : (ss : List Standing) → list_any (makes_beside q p) ss ≡ true
+  makers_stay : (ss : List Standing) → list_any (makes_beside q p) ss ≡ true
       → list_any (makes_beside q p) (flat_map (removed_one p true) ss) ≡ true
   makers_stay [] there = there
   makers_stay (s ∷ ss) there = by (is_pair p s) refl (makers_stay ss)
@@ -80,7 +77,7 @@ module _ (p q : Address) where
           (more (ap (λ b. b || list_any (makes_beside q p) ss) (sym (gone_makes_none s is)) ∙ there))
           ∙ or_true (list_any (makes_beside q p) (left_standing s))
       by false is more =
-          elim (either (makes_beside q p s) (list_any (makes_beside q p) ss) there) [
+          elim (or_cases (makes_beside q p s) (list_any (makes_beside q p) ss) there) [
             | inl here ↦ ap (λ b. b || later) here
             | inr k ↦ ap (λ b. makes_beside q p s || b) (more k) ∙ or_true (makes_beside q p s)
           ]
@@ -106,7 +103,7 @@ module _ (p q : Address) where
 
   maker_under : (s : Standing) → makes_beside q p s ≡ true → (a : Address) × (s.address ≡ Some a) × IsUnder q a
   maker_under s is =
-      elim (either (is_dotted q s.base s.address) (heads_below q s.base s.address) (and_parts (makes q s.base s.address) (not (is_below p s)) is).0) [
+      elim (or_cases (is_dotted q s.base s.address) (heads_below q s.base s.address) (and_parts (makes q s.base s.address) (not (is_below p s)) is).0) [
         | inl h ↦ dotted_under s.base s.address h
         | inr h ↦ headed_under s.base s.address h
       ]
@@ -197,7 +194,7 @@ parent_made : (q : Address) (last : Step) (lines : List Line) → LeavesTable li
     → (q ≡ []) ⊎ (list_any (makes_beside q (q ++ last ∷ [])) (standing lines) ≡ true)
 parent_made q last lines there =
     let p = q ++ last ∷ [] in
-    elim (either (list_any (is_undotted_pair p) (standing lines)) (list_any (makes_beside (parent_of p) p) (standing lines)) there.1) [
+    elim (or_cases (list_any (is_undotted_pair p) (standing lines)) (list_any (makes_beside (parent_of p) p) (standing lines)) there.1) [
       | inr made ↦ inr (subst (λ x. list_any (makes_beside x p) (standing lines) ≡ true) (parent_is q last) made)
       | inl undotted ↦ headed undotted
     ]
@@ -221,7 +218,8 @@ parent_made q last lines there =
 
 -- ---- all above it
 
-closed_down : (kinds : Kinds) → IsClosed kinds → (r x : Address) → kinds x ≡ None → kinds (x ++ r) ≡ None
+-- where nothing stands, nothing stands at any depth below
+pub closed_down : (kinds : Kinds) → IsClosed kinds → (r x : Address) → kinds x ≡ None → kinds (x ++ r) ≡ None
 closed_down kinds closed [] x none = ap kinds (append-nil x) ∙ none
 closed_down kinds closed (s ∷ r) x none = ap kinds (sym (append_assoc x (s ∷ []) r)) ∙ closed_down kinds closed r (x ++ s ∷ []) (closed x s none)
 

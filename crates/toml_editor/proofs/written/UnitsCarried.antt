@@ -1,5 +1,5 @@
 -- What plain edits carry along, from text to text.
-use Rattle.std.proofs.Common.{◌≡◌, ◌⊎◌, inl, inr, ℕ, List, [], ◌∷◌, ◌++◌, length, refl, sym, ap, ◌∙◌, subst, Option, Some, None, IfSome, IsSome, map, true≢false, Bool, true, false, ◌&&◌}
+use Rattle.std.proofs.Common.{◌≡◌, ◌⊎◌, inl, inr, ℕ, List, [], ◌∷◌, ◌++◌, length, refl, sym, ap, ◌∙◌, subst, Option, Some, None, IfSome, IsSome, map, true≢false, Bool, false, ◌&&◌, ap₂}
 use Rattle.toml_tree.specs.Bare.{bare_lines}
 use Rattle.toml_tree.specs.Places.{put_doc}
 use Rattle.toml_tree.specs.Spells.{Spells, AreLines, joined, lines_parts, mark_of, EachIs}
@@ -21,6 +21,8 @@ use Rattle.toml_names.specs.mentions.Rules.{KeepsRules}
 use Rattle.toml_names.proofs.Proved.{lines_are_closed, lines_have_data, places_are_not_named}
 use Rattle.toml_units.proofs.Proved.{units_are_named}
 use Rattle.toml_working.specs.Removing.{remove_lines}
+use Rattle.toml_editor.proofs.written.HeaderFormed.{header_forms}
+use Rattle.toml_editor.proofs.written.HeaderPut.{IsOneMore}
 use Rattle.toml_editor.proofs.written.RemoveKept.{remove_forms}
 use Rattle.toml_editor.proofs.written.RemovedEither.{left_clear, remove_good, remove_way}
 use Rattle.toml_editor.proofs.written.Pairwise.{has_of_any, from_has}
@@ -40,11 +42,8 @@ use Rattle.toml_working.specs.Setting.{set_lines}
 use Rattle.toml_layout.specs.declared.tree.Brackets.TheVariants.{One, Two}
 use Rattle.toml_working.specs.Written.{HasLine, HasSection, HasValue}
 use Rattle.toml_editor.specs.EditedLines.{IsInNoValue, IsWritten, header_put_in}
-use Rattle.toml_editor.proofs.written.ElementFacts.{element_room}
-use Rattle.toml_editor.proofs.written.ElementKept.{element_forms}
-use Rattle.toml_editor.proofs.written.HeaderGoes.{element_put, section_put}
-use Rattle.toml_editor.proofs.written.SectionFacts.{section_room}
-use Rattle.toml_editor.proofs.written.SectionFormed.{section_forms}
+use Rattle.toml_editor.proofs.written.HeaderFacts.{element_room, section_room}
+use Rattle.toml_editor.proofs.written.HeaderLaidOut.{StandsInLayout, element_laid_out, section_laid_out}
 use Rattle.toml_editor.proofs.written.SetKept.{set_short}
 use Rattle.toml_editor.proofs.written.SetFormed.{set_forms}
 use Rattle.toml_editor.proofs.written.WaySet.{set_way}
@@ -55,11 +54,9 @@ use Rattle.toml_working.specs.Manners.{Manner}
 use Rattle.std.specs.Prelude.{not}
 use Rattle.toml_layout.specs.Holders.{parent_of}
 use Rattle.toml_layout.specs.declared.tree.Brackets.{Brackets}
-use Rattle.toml_working.specs.HeaderStanding.{blank_laid_out, blank_standing, header_laid_out}
+use Rattle.toml_working.specs.HeaderStanding.{blank_standing}
 use Rattle.toml_working.specs.Standing.{standing}
-use Rattle.toml_editor.proofs.written.HeaderLength.{one_more}
 use Rattle.toml_editor.proofs.written.TablesStay.{parent_is}
-use Rattle.toml_editor.proofs.written.UnitsHeaded.{IsOneMore}
 use Rattle.toml_editor.proofs.written.WayWhole.{HasWay, HasWayIf, partners, same_newlines, same_seen, way_weaker}
 
 -- whether the edit puts a blank line in before a header line
@@ -97,22 +94,26 @@ always : (c : Change) (manner : Manner) (ts : List (List ℕ)) (lines edited : L
 always c manner ts lines edited none way = way_weaker (puts_blank c manner lines ≡ false) (c ∷ []) (ts ∷ []) lines edited (λ is. tt) way
 
 -- a header line that is put in without one is one line more
-header_more : (brackets : Brackets) (q p : Address) (last : Step) (manner : Manner) (lines put : List Line) → p ≡ q ++ last ∷ [] → AreLines lines → IsInNoValue lines q
-    → standing put ≡ header_laid_out manner.layout q p brackets manner manner.may_blank (standing lines)
-    → blank_standing (parent_of p) p brackets manner manner.may_blank (standing lines) ≡ false → IsOneMore lines put
-header_more brackets q p last manner lines put at forms outside is none =
-    one_more manner.layout q p brackets manner manner.may_blank lines put (some lines forms) is
-    (sym (ap (λ b. not b && blank_laid_out manner.layout q p brackets manner manner.may_blank (standing lines)) outside)
-    ∙ ap (λ r. blank_standing r p brackets manner manner.may_blank (standing lines)) (sym (parent_is q last) ∙ ap parent_of (sym at)) ∙ none)
-  where
-    some : (ls : List Line) → AreLines ls → ¬ (ls ≡ [])
-    some [] are is = are
-    some (l ∷ ls) are is = cc
+header_is_one_more : (brackets : Brackets) (q p : Address) (last : Step) (manner : Manner) (lines : List Line) → p ≡ q ++ last ∷ [] → IsInNoValue lines q
+    → StandsInLayout manner.layout q brackets p manner lines → blank_standing (parent_of p) p brackets manner manner.may_blank (standing lines) ≡ false
+    → IsOneMore lines (header_put_in manner.layout q brackets p manner lines)
+header_is_one_more brackets q p last manner lines at outside there none = elim there.more [
+  | inl one ↦ one
+  | inr blank ↦
+      absurd (true≢false
+      (sym (ap₂ (λ a b. not a && b) outside blank)
+      ∙ ap (λ r. blank_standing r p brackets manner manner.may_blank (standing lines)) (sym (parent_is q last) ∙ ap parent_of (sym at)) ∙ none))
+]
 
 -- what is to be shown of an edit
 abbrev HaveWays : Change → Type 0
 HaveWays c = (profile : Profile) (manner : Manner) (before after : List ℕ) (old now : Kinds) → IsNewline manner.newline → (good : IsGoodText profile before old)
     → IsFault profile c old None → IsAfter profile c old now → IsWritten profile c manner before after → HasGone c manner good.tree after
+
+-- the text, by lines of the tree that the text before spells
+edited_text : (good d : Doc) (made edited : List Line) (after : List ℕ) → d ≡ good → made ≡ edited → after ≡ d.mark.text ++ joined (lines_parts made)
+    → after ≡ good.mark.text ++ joined (lines_parts edited)
+edited_text good d made edited after same are text = text ∙ ap₂ (λ (x : Doc) ls. x.mark.text ++ joined (lines_parts ls)) same are
 
 rename_goes : (p : Address) (to : List ℕ) → HaveWays (rename p to)
 rename_goes p to profile manner before after old now newline good none is_after (d, spells, edited, made, text) = by (last_step p)
@@ -122,9 +123,6 @@ rename_goes p to profile manner before after old now newline good none is_after 
 
     lines_are : edited ≡ rename_lines p to good.tree.lines
     lines_are = made ∙ ap (λ (x : Doc). rename_lines p to x.lines) same
-
-    text_is : after ≡ good.tree.mark.text ++ joined (lines_parts (rename_lines p to good.tree.lines))
-    text_is = text ∙ ap (λ (x : Doc). x.mark.text ++ joined (lines_parts edited)) same ∙ ap (λ ls. good.tree.mark.text ++ joined (lines_parts ls)) lines_are
 
     by : (p ≡ []) ⊎ ((q : Address) × (s : Step) × (p ≡ q ++ s ∷ [])) → HasGone (rename p to) manner good.tree after
     by (inl root) = absurd (none RootNamed root)
@@ -136,7 +134,7 @@ rename_goes p to profile manner before after old now newline good none is_after 
           comments_are = refl;
           edited = rename_lines p to good.tree.lines;
           forms = rename_forms p to good.tree.lines good.spelled.0.lines.forms;
-          text = text_is;
+          text = edited_text good.tree d edited (rename_lines p to good.tree.lines) after same lines_are text;
           way = always (rename p to) manner [] good.tree.lines (rename_lines p to good.tree.lines) refl
               (subst (λ x. HasWay (rename x to ∷ []) ([] ∷ []) good.tree.lines (rename_lines x to good.tree.lines)) (sym at)
               (rename_way q n to good.tree.lines good.spelled.0.lines.forms free good.good.0));
@@ -148,14 +146,12 @@ insert_goes p value profile manner before after old now newline good none is_aft
     let lines = good.tree.lines in
     let there' : HasSection lines q = subst (λ (x : Doc). HasSection x.lines q) same there in
     let lines_are : edited ≡ insert_in q name v manner lines = made ∙ ap (λ (x : Doc). insert_in q name v manner x.lines) same in
-    let text_is : after ≡ good.tree.mark.text ++ joined (lines_parts (insert_in q name v manner lines)) =
-    text ∙ ap (λ (x : Doc). x.mark.text ++ joined (lines_parts edited)) same ∙ ap (λ ls. good.tree.mark.text ++ joined (lines_parts ls)) lines_are in
     record {
       comments_in = texts (comments (inside [] v));
       comments_are = (v, is_value.0, refl);
       edited = insert_in q name v manner lines;
       forms = insert_forms q name v manner lines there' good.spelled.0.lines.forms newline is_value.0.form is_value.0.shallow;
-      text = text_is;
+      text = edited_text good.tree d edited (insert_in q name v manner lines) after same lines_are text;
       way = always (insert p value) manner (texts (comments (inside [] v))) lines (insert_in q name v manner lines) refl
           (subst (λ x. HasWay (insert x value ∷ []) (texts (comments (inside [] v)) ∷ []) lines (insert_in q name v manner lines)) (sym at)
           (insert_way q name value v manner lines there' good.spelled.0.lines.forms));
@@ -167,8 +163,6 @@ set_goes p value profile manner before after old now newline good none is_after 
     let lines = good.tree.lines in
     let there' : HasValue lines p = subst (λ (x : Doc). HasValue x.lines p) same there in
     let lines_are : edited ≡ set_lines p v lines = made ∙ ap (λ (x : Doc). set_lines p v x.lines) same in
-    let text_is : after ≡ good.tree.mark.text ++ joined (lines_parts (set_lines p v lines)) =
-    text ∙ ap (λ (x : Doc). x.mark.text ++ joined (lines_parts edited)) same ∙ ap (λ ls. good.tree.mark.text ++ joined (lines_parts ls)) lines_are in
     let apart : ¬ (p ≡ []) = none RootNamed in
     let fit = all_fit profile value v is_after.0 is_value is_after.1 p (λ r some low. none AddressLength (inr (is_after.0, is_after.1, r, some, low))) in
     let short = set_short p v lines apart there' good.good fit in
@@ -177,7 +171,7 @@ set_goes p value profile manner before after old now newline good none is_after 
       comments_are = (v, is_value.0, refl);
       edited = set_lines p v lines;
       forms = set_forms p v lines good.spelled.0.lines.forms is_value.0.form short;
-      text = text_is;
+      text = edited_text good.tree d edited (set_lines p v lines) after same lines_are text;
       way = always (set p value) manner (texts (comments (inside [] v))) lines (set_lines p v lines) refl
           (set_way p value v lines apart good.spelled.0.lines.forms is_value.0.form there' good.good.0);
     }
@@ -223,20 +217,18 @@ remove_goes p profile manner before after old now newline good none is_after (d,
       comments_are = refl;
       edited = remove_lines p lines;
       forms = forms;
-      text =
-          text ∙ ap (λ (x : Doc). x.mark.text ++ joined (lines_parts edited)) same
-          ∙ ap (λ ls. good.tree.mark.text ++ joined (lines_parts ls)) lines_are;
+      text = edited_text good.tree d edited (remove_lines p lines) after same lines_are text;
       way = always (remove p) manner [] lines (remove_lines p lines) refl (remove_way p lines good.spelled.0.lines.forms has_line good.good.0 far);
     }
 
-section_ways : (p : Address) → HaveWays (new_section p)
-section_ways p profile manner before after old now newline good none is_after (d, spells, edited, (q, name, at, outside, made), text) =
+section_goes : (p : Address) → HaveWays (new_section p)
+section_goes p profile manner before after old now newline good none is_after (d, spells, edited, (q, name, at, outside, made), text) =
     let same : d ≡ good.tree = one_tree d good.tree before spells.0 good.spelled.0 in
     let lines = good.tree.lines in
     let forms = good.spelled.0.lines.forms in
     let room = section_room profile q name old (subst (λ x. IsFault profile (new_section x) old None) at none) in
     let outside' = subst (λ (x : Doc). IsInNoValue x.lines q) same outside in
-    let there = section_put q name manner lines old forms good.good.0 good.facts room outside' in
+    let there = section_laid_out q name manner lines old forms good.good.0 good.facts room outside' in
     let put = there.header in
     let edited' = header_put_in manner.layout q One (child q name) manner lines in
     let lines_are : edited ≡ edited' =
@@ -245,24 +237,22 @@ section_ways p profile manner before after old now newline good none is_after (d
       comments_in = [];
       comments_are = refl;
       edited = edited';
-      forms = section_forms q name manner.newline lines edited' put forms newline;
-      text =
-          text ∙ ap (λ (x : Doc). x.mark.text ++ joined (lines_parts edited)) same
-          ∙ ap (λ ls. good.tree.mark.text ++ joined (lines_parts ls)) lines_are;
+      forms = header_forms One (child q name) manner.newline lines edited' put forms newline;
+      text = edited_text good.tree d edited edited' after same lines_are text;
       way =
           subst (λ x. HasWayIf (puts_blank (new_section x) manner lines ≡ false) (new_section x ∷ []) ([] ∷ []) lines edited') (sym at)
           (way_weaker (puts_blank (new_section (child q name)) manner lines ≡ false) (new_section (child q name) ∷ []) ([] ∷ []) lines edited'
-          (header_more One q (child q name) (Name name) manner lines edited' refl forms outside' there.stands) (section_way q name manner.newline lines edited' put forms));
+          (header_is_one_more One q (child q name) (Name name) manner lines refl outside' there) (section_way q name manner.newline lines edited' put forms));
     }
 
-element_ways : (p : Address) → HaveWays (new_element p)
-element_ways p profile manner before after old now newline good none is_after (d, spells, edited, (q, i, at, outside, made), text) =
+element_goes : (p : Address) → HaveWays (new_element p)
+element_goes p profile manner before after old now newline good none is_after (d, spells, edited, (q, i, at, outside, made), text) =
     let same : d ≡ good.tree = one_tree d good.tree before spells.0 good.spelled.0 in
     let lines = good.tree.lines in
     let forms = good.spelled.0.lines.forms in
     let room = element_room profile q i old (lines_are_closed lines old good.good.0 good.facts) (subst (λ x. IsFault profile (new_element x) old None) at none) in
     let outside' = subst (λ (x : Doc). IsInNoValue x.lines q) same outside in
-    let there = element_put q i manner lines old forms good.good.0 good.facts room outside' in
+    let there = element_laid_out q i manner lines old forms good.good.0 good.facts room outside' in
     let put = there.header in
     let edited' = header_put_in manner.layout q Two (element q i) manner lines in
     let lines_are : edited ≡ edited' =
@@ -271,14 +261,12 @@ element_ways p profile manner before after old now newline good none is_after (d
       comments_in = [];
       comments_are = refl;
       edited = edited';
-      forms = element_forms q i manner.newline lines edited' put forms newline;
-      text =
-          text ∙ ap (λ (x : Doc). x.mark.text ++ joined (lines_parts edited)) same
-          ∙ ap (λ ls. good.tree.mark.text ++ joined (lines_parts ls)) lines_are;
+      forms = header_forms Two (element q i) manner.newline lines edited' put forms newline;
+      text = edited_text good.tree d edited edited' after same lines_are text;
       way =
           subst (λ x. HasWayIf (puts_blank (new_element x) manner lines ≡ false) (new_element x ∷ []) ([] ∷ []) lines edited') (sym at)
           (way_weaker (puts_blank (new_element (element q i)) manner lines ≡ false) (new_element (element q i) ∷ []) ([] ∷ []) lines edited'
-          (header_more Two q (element q i) (Index i) manner lines edited' refl forms outside' there.stands) (element_way q i manner.newline lines edited' put forms));
+          (header_is_one_more Two q (element q i) (Index i) manner lines refl outside' there) (element_way q i manner.newline lines edited' put forms));
     }
 
 pub plain_goes : (c : Change) → HaveWays c
@@ -286,8 +274,8 @@ plain_goes (set p value) = set_goes p value
 plain_goes (insert p value) = insert_goes p value
 plain_goes (rename p to) = rename_goes p to
 plain_goes (remove p) = remove_goes p
-plain_goes (new_section p) = section_ways p
-plain_goes (new_element p) = element_ways p
+plain_goes (new_section p) = section_goes p
+plain_goes (new_element p) = element_goes p
 
 pub plain_is_carried : PlainIsCarried
 plain_is_carried c profile manner before after old now newline good none is_after written new =

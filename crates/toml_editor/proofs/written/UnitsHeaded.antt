@@ -27,7 +27,7 @@ use Rattle.toml_editor.specs.UnitBlocks.{header_line_units, header_text, line_of
 use Rattle.toml_editor.proofs.written.Alike.{alike_self}
 use Rattle.toml_editor.proofs.written.CountedAlike.{StandSame, stand_same}
 use Rattle.toml_editor.proofs.written.HeaderCounted.{AreApart, back_apart, header_counted}
-use Rattle.toml_editor.proofs.written.HeaderPut.{IsApart, IsHeaderPut, IsPutBefore, IsPutBlank, IsPutLast, ended}
+use Rattle.toml_editor.proofs.written.HeaderPut.{IsApart, IsHeaderPut, IsOneMore, IsPutBefore, IsPutBlank, IsPutLast, ended}
 use Rattle.toml_editor.proofs.written.InsertSpaced.{line_formed}
 use Rattle.toml_editor.proofs.written.LastLines.{LastIsFull, full_inner, full_line, tail_no_line}
 use Rattle.toml_editor.proofs.written.PutStands.{stand_alike}
@@ -83,11 +83,8 @@ key_is (n ∷ names) ps = ap (λ r. spelled n ++ r) (dotted_is names ps) ∙ sym
 
 -- ---- a new header line
 
--- one line came alone
-abbrev pub IsOneMore : List Line → List Line → Type 0
-IsOneMore old new = length new ≡ length old + 1
-
 module _ (brackets : Brackets) (p : Address) (ws : List ℕ) where
+  -- the unit of the header line
   abbrev pub header_block : List TextUnit
   header_block = header_line_units (fresh (header_text brackets ws p)) p
 

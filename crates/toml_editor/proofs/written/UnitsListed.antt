@@ -1,5 +1,6 @@
 -- What lists of plain edits carry along, from text to text.
 use Rattle.std.proofs.Common.{◌≡◌, inl, ◌+◌, ℕ, true, ◌&&◌, Option, Some, None, option_map, List, [], ◌∷◌, ◌++◌, map, refl, sym, ap, ◌∙◌, subst, true≢false, arith, Bool, false, length}
+use Rattle.std.proofs.Math.Bool.{and-false}
 use Rattle.std.specs.List.{flat_map}
 use Rattle.toml_text.specs.Forms.{IsNewline}
 use Rattle.toml_tree.specs.Bare.{bare_lines}
@@ -162,20 +163,16 @@ and_not true false is = (refl, refl)
 and_not true true is = cc
 and_not false b is = cc
 
-and_false : (b : Bool) → (b && false) ≡ false
-and_false true = refl
-and_false false = refl
-
 none_laid : (layout : Layout) (q p : Address) (brackets : Brackets) (manner : Manner) (may : Bool) (ss : List Standing) → may ≡ false
     → blank_laid_out layout q p brackets manner may ss ≡ false
 none_laid layouts.Plain q p brackets manner may ss is = refl
 none_laid layouts.Follow q p brackets manner may ss is =
-    ap (λ b. not (is_some (beside_family q p brackets manner.newline ss)) && (b && wants_blank ss)) is ∙ and_false _
+    ap (λ b. not (is_some (beside_family q p brackets manner.newline ss)) && (b && wants_blank ss)) is ∙ and-false _
 
 none_standing : (q p : Address) (brackets : Brackets) (manner : Manner) (ss : List Standing) → manner.may_blank ≡ false
     → blank_standing q p brackets manner manner.may_blank ss ≡ false
 none_standing q p brackets manner ss is =
-    ap (λ b. not (list_any (holds q) ss) && b) (none_laid manner.layout q p brackets manner manner.may_blank ss is) ∙ and_false _
+    ap (λ b. not (list_any (holds q) ss) && b) (none_laid manner.layout q p brackets manner manner.may_blank ss is) ∙ and-false _
 
 after_may : (c : Change) (manner : Manner) (lines : List Line) → (manner_after c manner lines).may_blank ≡ true
     → (manner.may_blank ≡ true) × (puts_blank c manner lines ≡ false)
@@ -228,7 +225,7 @@ pub record HasListWay (Firm : Type 0) (cs : List Change) (d e : Doc) : Type 0 wh
   pub comments_are : written.AreWritten cs comments_in
   pub way : HasWayIf Firm cs comments_in d.lines e.lines
 
-pub list_goes : (cs : List Change) (profile : Profile) (manner : Manner) (before after : List ℕ) (old now : Kinds) → IsNewline manner.newline
+list_goes : (cs : List Change) (profile : Profile) (manner : Manner) (before after : List ℕ) (old now : Kinds) → IsNewline manner.newline
     → (good : IsGoodText profile before old) → EndsBare manner good.tree.lines
     → Lead profile cs old now → AreWritten profile cs manner before after → (new : IsGoodText profile after now)
     → HasListWay (manner.may_blank ≡ false) cs good.tree new.tree

@@ -214,7 +214,7 @@ module _ (q : Address) (name : List ℕ) (v : Value) where
         (newlines (front ++ line_put s name v manner l back))
     put_at front back = put_among (IsExpr l.expr) (block s) l back (line_put s name v manner l back) (l ∷ []) (λ xs. section xs ≡ q) (put_line back) front
 
-  abbrev pub IsPutIn : Manner → List Line → List Line → Type 0
+  abbrev IsPutIn : Manner → List Line → List Line → Type 0
   IsPutIn manner lines new = (s : Spacing) × (manner.layout ≡ layouts.Plain → s ≡ plain_spacing)
       × IsPutWell (AreLines lines) (units lines) (block s) (units new) (newlines lines) (newlines new)
 

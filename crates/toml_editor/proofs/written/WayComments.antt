@@ -108,6 +108,17 @@ comments = filter (λ (u : TextUnit). is_comment u.kind)
 pub times_cons : (t x : List ℕ) (ts : List (List ℕ)) → times t (x ∷ ts) ≡ cond (bytes_eq t x) 1 0 + times t ts
 times_cons t x ts = sum_by-cons (λ y. cond (bytes_eq t y) 1 0) x ts
 
+-- one comment more takes none away
+pub comment_more : (z : Bool) (w : TextUnit) (s : List TextUnit) (t : List ℕ) → times t (texts s) ≤ times t (texts (cond z (w ∷ s) s))
+comment_more true w s t = let e = times_cons t w.piece.text (texts s) in omega (arith, e)
+comment_more false w s t = omega arith
+
+-- and one more on both sides keeps the bound
+pub comment_on : (z : Bool) (v : TextUnit) (r s : List TextUnit) (t : List ℕ) (x : ℕ) → times t (texts r) ≤ x + times t (texts s)
+    → times t (texts (cond z (v ∷ r) r)) ≤ x + times t (texts (cond z (v ∷ s) s))
+comment_on true v r s t x few = let e = times_cons t v.piece.text (texts r) in let f = times_cons t v.piece.text (texts s) in omega (arith, few, e, f)
+comment_on false v r s t x few = few
+
 written_seen : (cs : List Change) (written : List (List (List ℕ))) (x w : TextUnit) → seen x ≡ seen w → IsWritten cs written w → IsWritten cs written x
 written_seen [] written x w same is = absurd is
 written_seen (c ∷ cs) [] x w same is = absurd is
@@ -158,13 +169,9 @@ module _ (cs : List Change) (written : List (List (List ℕ))) (before after : L
       kind_is : seen x ≡ seen w → is_comment x.kind ≡ is_comment w.kind
       kind_is same = ap (λ (y : Seen). is_comment y.kind) same
 
-      fewer : (t : Bool) → is_comment w.kind ≡ t → (bs : List ℕ) → times bs (texts (comments (added s))) ≤ times bs (texts (cond t (w ∷ comments (added s)) (comments (added s))))
-      fewer true is bs = let e = times_cons bs w.piece.text (texts (comments (added s))) in omega (arith, e)
-      fewer false is bs = omega arith
-
       by : (t : Bool) → is_comment w.kind ≡ t → IsCovered ps ws k ⊎ ¬ IsCovered ps ws k → seen x ≡ seen w → News (k + 1) xs s → News k (x ∷ xs) (new w ∷ s)
-      by false comment covered same n = not_new k x xs s (new w ∷ s) (λ new. true≢false (sym new.0 ∙ kind_is same ∙ comment)) (fewer (is_comment w.kind) refl) n
-      by true comment (inl covered) same n = not_new k x xs s (new w ∷ s) (λ new. new.1 covered) (fewer (is_comment w.kind) refl) n
+      by false comment covered same n = not_new k x xs s (new w ∷ s) (λ new. true≢false (sym new.0 ∙ kind_is same ∙ comment)) (comment_more (is_comment w.kind) w (comments (added s))) n
+      by true comment (inl covered) same n = not_new k x xs s (new w ∷ s) (λ new. new.1 covered) (comment_more (is_comment w.kind) w (comments (added s))) n
       by true comment (inr not) same n =
           let asked = fit.0.comment comment in
           record {

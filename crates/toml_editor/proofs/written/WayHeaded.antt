@@ -1,6 +1,6 @@
 -- The way of a new header line.
 use Rattle.std.proofs.Common.{◌≡◌, inl, inr, ℕ, ◌+◌, ◌<◌, ◌&&◌, Bool, false, true, Option, Some, None, List, [], ◌∷◌, ◌++◌, length}
-use Rattle.std.proofs.Common.{refl, sym, ap, ap₂, ◌∙◌, subst, true≢false, append-nil, arith}
+use Rattle.std.proofs.Common.{refl, sym, ap, ◌∙◌, subst, true≢false, append-nil, arith}
 use Rattle.std.specs.Prelude.{not}
 use Rattle.std.proofs.Math.Bool.{or-false}
 use Rattle.toml_tree.specs.Spells.{AreLines, EachIs}
@@ -15,17 +15,16 @@ use Rattle.toml_edits.specs.declared.side.Side.TheVariants as sides
 use Rattle.toml_edits.proofs.Proved.{sides_are_right}
 use Rattle.toml_layout.specs.declared.tree.Brackets.{Brackets}
 use Rattle.toml_layout.specs.declared.tree.Brackets.TheVariants.{One, Two}
-use Rattle.toml_units.specs.declared.unit.UnitKind.{UnitKind}
 use Rattle.toml_units.specs.declared.unit.UnitKind.TheVariants as kinds
 use Rattle.toml_units.specs.Units.{TextUnit, units}
 use Rattle.toml_checker.specs.declared.tables.Part.TheVariants as parts
 use Rattle.toml_checker.specs.CarriedTo.{At, IsAtOrAbove}
 use Rattle.toml_checker.specs.Comments.{is_comment, texts}
 use Rattle.toml_checker.specs.Owed.{IsOwed, Owes, result}
-use Rattle.toml_checker.specs.Plain.{Site, home_stands, is_kept, is_named, next_line, stands}
+use Rattle.toml_checker.specs.Plain.{Site, home_stands, is_named, stands}
 use Rattle.toml_editor.specs.UnitBlocks.{line_of_nothing}
-use Rattle.toml_editor.proofs.written.HeaderPut.{IsHeaderPut, IsSectionPut}
-use Rattle.toml_editor.proofs.written.UnitsHeaded.{IsOneMore, IsPutAlone, IsPutParted, header_block, header_units}
+use Rattle.toml_editor.proofs.written.HeaderPut.{IsHeaderPut, IsOneMore}
+use Rattle.toml_editor.proofs.written.UnitsHeaded.{IsPutAlone, IsPutParted, header_block, header_units}
 use Rattle.toml_editor.proofs.written.UnitsPut.{formed_well}
 use Rattle.toml_editor.proofs.written.Way.{is_here}
 use Rattle.toml_editor.proofs.written.WayBlock.{lines_append, new_fits}
@@ -36,7 +35,7 @@ use Rattle.toml_editor.proofs.written.WayKept.{count_lines, header_named}
 use Rattle.toml_editor.proofs.written.WayOwed.{OwesBelow}
 use Rattle.toml_editor.proofs.written.WayPut.{PutsLines, put_way_if}
 use Rattle.toml_editor.proofs.written.WayWhole.{HasWayIf}
-use Rattle.toml_editor.proofs.written.WayZip.{lines_in}
+use Rattle.toml_editor.proofs.written.WayZip.{comments_stay, lines_in}
 
 -- What an edit has that puts a header line in: it carries each address to itself, and names the lines of keys alone whose addresses are above its
 -- own, and no comment.
@@ -109,18 +108,6 @@ module _ (c : Change) (puts : PutsHeader c) where
   self_here None base = refl
   self_here (Some a) base = unnamed (is_named parts.Comment c base (side p a)) (puts.comment base (side p a))
 
-  no_comment_lost : (line : Option Site) (u : TextUnit) → is_here (c ∷ []) line u ≡ false → is_comment u.kind ≡ false
-  no_comment_lost line u lost = by u.kind u.address u.base lost
-    where
-      by : (kind : UnitKind) (a : Option Address) (base : Option ℕ)
-          → is_kept kind (c ∷ []) (next_line line (record { kind = kind; address = a; base = base })) (record { kind = kind; address = a; base = base }) ≡ false
-          → is_comment kind ≡ false
-      by kinds.Line a base lost = refl
-      by kinds.Pair a base lost = refl
-      by kinds.Element a base lost = refl
-      by kinds.TailComment a base lost = absurd (true≢false (sym (homes_here line) ∙ lost))
-      by kinds.InnerComment a base lost = absurd (true≢false (sym (ap₂ (λ x y. x && y) (homes_here line) (self_here a base)) ∙ lost))
-
   owed : (a : Address) → IsAtOrAbove a p → IsOwed (c ∷ []) a
   owed a is = inl (p, p, puts.goes, refl, puts.above a is)
 
@@ -131,7 +118,7 @@ module _ (c : Change) (puts : PutsHeader c) where
       → (u.kind ≡ kinds.Line → At u.address (IsOwed (c ∷ []))) × (is_comment u.kind ≡ false)
   header_lost line u gone = (
     (λ is. let l = line_lost line u is gone in subst (λ o. At o (IsOwed (c ∷ []))) (sym l.1) (owed_above l.0 l.2)),
-    no_comment_lost line u gone,
+    comments_stay c homes_here self_here line u gone,
   )
 
   puts_lines : (block : List TextUnit) → 0 < lines_in block → texts (comments block) ≡ [] → PutsLines c [] block
@@ -201,10 +188,11 @@ header_way c puts brackets style old edited put formed = elim (header_units brac
 
 -- All units of before go along, each to its address, and the header line comes, owed; where the last line of no bytes becomes a blank one,
 -- another one comes behind it. So a last line of no bytes stays the last where one line comes.
-pub section_way : (q : Address) (name style : List ℕ) (old edited : List Line) → IsSectionPut (child q name) style old edited → AreLines old
+pub section_way : (q : Address) (name style : List ℕ) (old edited : List Line) → IsHeaderPut One (child q name) style old edited → AreLines old
     → HasWayIf (IsOneMore old edited) (new_section (child q name) ∷ []) ([] ∷ []) old edited
 section_way q name = let p = child q name in header_way (new_section p) (section_puts p) One
 
+-- and so of an element
 pub element_way : (q : Address) (i : ℕ) (style : List ℕ) (old edited : List Line) → IsHeaderPut Two (element q i) style old edited → AreLines old
     → HasWayIf (IsOneMore old edited) (new_element (element q i) ∷ []) ([] ∷ []) old edited
 element_way q i = let p = element q i in header_way (new_element p) (element_puts p) Two

@@ -13,7 +13,7 @@ use Rattle.toml_units.specs.Places.{is_line}
 use Rattle.toml_units.specs.Units.{TextUnit}
 use Rattle.toml_checker.specs.declared.tables.Part.{Part}
 use Rattle.toml_checker.specs.declared.tables.Part.TheVariants as parts
-use Rattle.toml_checker.specs.CarriedTo.{At}
+use Rattle.toml_checker.specs.CarriedTo.{At, IsCarriedTo}
 use Rattle.toml_checker.specs.Comments.{is_comment}
 use Rattle.toml_checker.specs.Plain.{Site, site, next_line, stands, is_named, is_kept, home_stands}
 use Rattle.toml_edits.specs.Sides.{side}
@@ -125,6 +125,14 @@ kept_on c cs line next u w goes home =
         ∙ shuffled (home_stands (c ∷ []) line) (home_stands cs next) (stands parts.Comment (c ∷ []) o base)
         (stands parts.Comment cs (option_and_then (carried (c ∷ [])) o) base)
 
+-- what goes by the first edit
+pub lost_on : (c : Change) (cs : List Change) (line : Option Site) (u : TextUnit) → is_here (c ∷ []) line u ≡ false
+    → is_here (c ∷ cs) line u ≡ false
+lost_on c cs line u lost =
+    let w : TextUnit = record { kind = u.kind; piece = u.piece; address = option_and_then (carried (c ∷ [])) u.address; base = u.base } in
+    let next = option_map (moved_site (c ∷ [])) line in
+    kept_on c cs line next u w refl (λ is. refl) ∙ ap (λ x. x && is_here cs next w) lost
+
 -- ---- where it is carried
 
 moved_address : (c : Change) (cs : List Change) (o : Option Address)
@@ -168,9 +176,18 @@ line_goes cs line next u w goes home = ap (next_line next) goes ∙ by (is_line 
 
 -- ---- where one edit carries a unit
 
-pub one_carrier : (c : Change) (o : Option Address) → option_and_then (carry c) o ≡ option_and_then (carried (c ∷ [])) o
+one_carrier : (c : Change) (o : Option Address) → option_and_then (carry c) o ≡ option_and_then (carried (c ∷ [])) o
 one_carrier c None = refl
 one_carrier c (Some a) = sym (no_more (carry c a))
+
+-- where it carries it, and the others on
+pub one_carried : (c : Change) (cs : List Change) (o x y : Option Address) → IsCarriedTo (c ∷ []) o x → IsCarriedTo cs x y → IsCarriedTo (c ∷ cs) o y
+one_carried c cs None None None h k = tt
+one_carried c cs None None (Some b) h k = absurd k
+one_carried c cs None (Some x) y h k = absurd h
+one_carried c cs (Some a) None y h k = absurd h
+one_carried c cs (Some a) (Some x) None h k = absurd k
+one_carried c cs (Some a) (Some x) (Some b) h k = ap (option_and_then (carried cs)) (sym (no_more (carry c a)) ∙ h) ∙ k
 
 pub site_goes : (c : Change) (u w : TextUnit) → w.kind ≡ u.kind → w.address ≡ option_and_then (carry c) u.address → w.base ≡ u.base
     → site w ≡ moved_site (c ∷ []) (site u)

@@ -1,11 +1,10 @@
 -- The last line, where it has no bytes, along the way of an edit under which it stays the last: it does, and no other line comes there.
-use Rattle.std.proofs.Common.{◌≡◌, ◌⊎◌, inl, inr, ◌<◌, ◌+◌, ℕ, Bool, true, false, Option, Some, None, List, [], ◌∷◌, ◌++◌, length, refl, sym, ap, ap₂, ◌∙◌, subst, true≢false, arith}
+use Rattle.std.proofs.Common.{◌≡◌, inl, inr, ◌<◌, ◌+◌, ℕ, true, Option, Some, None, List, [], ◌∷◌, ◌++◌, length, refl, sym, ap, ◌∙◌, subst, true≢false, arith}
 use Rattle.toml_names.specs.model.Addresses.{Address}
 use Rattle.toml_edits.specs.Edits.{Change}
 use Rattle.toml_units.specs.declared.unit.UnitKind.TheVariants as kinds
 use Rattle.toml_units.specs.Units.{TextUnit}
-use Rattle.toml_checker.specs.CarriedTo.{At, IsCarriedTo}
-use Rattle.toml_checker.specs.Owed.{IsOwed}
+use Rattle.toml_checker.specs.CarriedTo.{IsCarriedTo}
 use Rattle.toml_checker.specs.Plain.{Site, site, next_line, stands}
 use Rattle.toml_checker.specs.declared.tables.Part.TheVariants as parts
 use Rattle.toml_editor.proofs.written.Way.{Step, both, old, new, olds, news, one_line, is_here}
@@ -25,6 +24,7 @@ pub record LastIsBare (us : List TextUnit) : Type 0 where
   pub nowhere : last.address ≡ None
   pub none : lines_in back ≡ 0
 
+-- so it is behind one more unit
 pub bare_behind : (w : TextUnit) (us : List TextUnit) → LastIsBare us → LastIsBare (w ∷ us)
 bare_behind w us it = record {
   front = w ∷ it.front;

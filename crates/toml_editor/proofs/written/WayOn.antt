@@ -1,66 +1,22 @@
 -- A way of one edit, and a way of others that goes on from there: together they are a way of all.
-use Rattle.std.proofs.Common.{◌≡◌, ◌⊎◌, inl, inr, ◌≤◌, ◌+◌, ℕ, Bool, true, false, cond, ◌&&◌, Option, Some, None, option_map, option_and_then, List, [], ◌∷◌, map, length, refl, sym, ap, ap₂, ◌∙◌, subst, true≢false, arith}
+use Rattle.std.proofs.Common.{◌≡◌, ◌⊎◌, inl, inr, ◌≤◌, ◌+◌, ℕ, Bool, true, false, cond, ◌&&◌, Option, None, option_map, option_and_then, List, [], ◌∷◌, map, length, refl, sym, ap, ap₂, ◌∙◌, subst, true≢false, arith}
 use Rattle.std.specs.Str.{bytes_eq}
 use Rattle.std.proofs.Math.Bool.{and-false}
 use Rattle.std.proofs.lemmas.Bool.{and_parts}
-use Rattle.toml_names.specs.model.Addresses.{Address}
-use Rattle.toml_edits.specs.Carry.{carry}
 use Rattle.toml_edits.specs.Edits.{Change}
 use Rattle.toml_edits.specs.Lists.{carried}
 use Rattle.toml_units.specs.declared.unit.UnitKind.TheVariants as kinds
 use Rattle.toml_units.specs.Units.{TextUnit}
 use Rattle.toml_checker.specs.CarriedTo.{IsCarriedTo, At}
 use Rattle.toml_checker.specs.Comments.{is_comment, texts, times, IsWritten}
-use Rattle.toml_checker.specs.declared.tables.Part.TheVariants as parts
 use Rattle.toml_checker.specs.Owed.{IsOwed}
-use Rattle.toml_checker.specs.Plain.{Site, site, next_line, stands}
+use Rattle.toml_checker.specs.Plain.{Site, site, next_line}
 use Rattle.toml_units.specs.Bares.{bare_unit}
 use Rattle.toml_editor.proofs.written.Way.{Step, both, old, new, olds, news, one_line, is_here}
-use Rattle.toml_editor.proofs.written.WayComments.{added, comments, times_cons}
+use Rattle.toml_editor.proofs.written.WayComments.{added, comment_more, comment_on, comments, times_cons}
 use Rattle.toml_editor.proofs.written.WayFits.{Matches, IsAsked, Fits}
-use Rattle.toml_editor.proofs.written.WayKeeps.{moved_site, Ends, StaysIf, ComesOwed, KeepsIf, no_more, kept_on, moved_on, line_moved_on, line_is}
-use Rattle.toml_editor.proofs.written.WayOwed.{along, IsOwedBelow, owed_below, owed_on, below_on, written_on}
-
-at_map : {P Q : Address → Type 0} → ((a : Address) → P a → Q a) → (o : Option Address) → At o P → At o Q
-at_map f None h = h
-at_map f (Some a) h = f a h
-
-one_carried : (c : Change) (cs : List Change) (o x y : Option Address) → IsCarriedTo (c ∷ []) o x → IsCarriedTo cs x y
-    → IsCarriedTo (c ∷ cs) o y
-one_carried c cs None None None h k = tt
-one_carried c cs None None (Some b) h k = absurd k
-one_carried c cs None (Some x) y h k = absurd h
-one_carried c cs (Some a) None y h k = absurd h
-one_carried c cs (Some a) (Some x) None h k = absurd k
-one_carried c cs (Some a) (Some x) (Some b) h k = ap (option_and_then (carried cs)) (sym (no_more (carry c a)) ∙ h) ∙ k
-
--- what the first edit owes of a line that the others do not name
-record OwedOn (c : Change) (cs : List Change) (base : Option ℕ) (o : Option Address) : Type 0 where
-  owed : At o (IsOwed (c ∷ cs))
-  header : base ≡ None → At o (IsOwedBelow (c ∷ cs))
-
-line_owed : (c : Change) (cs : List Change) (base : Option ℕ) (o x : Option Address) → stands parts.Line cs o base ≡ true
-    → IsCarriedTo cs o x
-    → At o (IsOwed (c ∷ [])) → (base ≡ None → At o (IsOwedBelow (c ∷ []))) → OwedOn c cs base x
-line_owed c cs base None x kept goes owed header = absurd owed
-line_owed c cs base (Some a) None kept goes owed header = absurd goes
-line_owed c cs None (Some a) (Some b) kept goes owed header =
-    let below = below_on c cs a b goes (header refl) in record { owed = owed_below (c ∷ cs) b below; header = λ is. below }
-line_owed c cs (Some n) (Some a) (Some b) kept goes owed header =
-    record { owed = owed_on c cs a b goes (λ rest. along parts.Line (Some n) tt cs a rest kept) owed; header = λ is. cc }
-
-below_carried : (c : Change) (cs : List Change) (o x : Option Address) → IsCarriedTo cs o x → At o (IsOwedBelow (c ∷ [])) → At x (IsOwedBelow (c ∷ cs))
-below_carried c cs None x goes below = absurd below
-below_carried c cs (Some a) None goes below = absurd goes
-below_carried c cs (Some a) (Some b) goes below = below_on c cs a b goes below
-
--- what goes by the first edit
-pub lost_on : (c : Change) (cs : List Change) (line : Option Site) (u : TextUnit) → is_here (c ∷ []) line u ≡ false
-    → is_here (c ∷ cs) line u ≡ false
-lost_on c cs line u lost =
-    let w : TextUnit = record { kind = u.kind; piece = u.piece; address = option_and_then (carried (c ∷ [])) u.address; base = u.base } in
-    let next = option_map (moved_site (c ∷ [])) line in
-    kept_on c cs line next u w refl (λ is. refl) ∙ ap (λ x. x && is_here cs next w) lost
+use Rattle.toml_editor.proofs.written.WayKeeps.{moved_site, Ends, StaysIf, ComesOwed, KeepsIf, kept_on, moved_on, line_moved_on, line_is, lost_on, one_carried}
+use Rattle.toml_editor.proofs.written.WayOwed.{IsOwedBelow, written_on, at_map, OwedOn, line_owed, below_carried}
 
 -- each line that comes is owed, where not always a last line of no bytes stays the last
 abbrev pub IsSure : Type 0 → Change → List Step → Type 0
@@ -99,10 +55,8 @@ module _ (Firm Former Later : Type 0) (former : Firm → Former) (later : Firm �
       kept = λ h.
           let p = m.kept (sym here_is ∙ h) in
           record {
-            text = p.text
-                ∙ sym (ap (λ (y : TextUnit). y.piece.text) same);
-            address = subst (λ o. IsCarriedTo cs o v.address)
-                (sym (ap (λ (y : TextUnit). y.address) same)) p.address;
+            text = p.text ∙ sym (ap (λ (y : TextUnit). y.piece.text) same);
+            address = subst (λ o. IsCarriedTo cs o v.address) (sym (ap (λ (y : TextUnit). y.address) same)) p.address;
             newline = λ is. p.newline (sym kind_is ∙ is);
           };
       lost = λ h. m.lost (sym here_is ∙ h);
@@ -253,11 +207,7 @@ module _ (Firm Former Later : Type 0) (former : Firm → Former) (later : Firm �
       where
         by : (z : Bool) → is_comment v.kind ≡ z → (y : Bool) → is_here cs mid w ≡ y
             → times t (texts (cond z (v ∷ comments r) (comments r))) ≤ times t (texts (comments (w ∷ s))) + x
-        by false is y then = let e = more_here (is_comment w.kind) in omega (arith, few, e)
-          where
-            more_here : (z : Bool) → times t (texts (comments s)) ≤ times t (texts (cond z (w ∷ comments s) (comments s)))
-            more_here true = let e = times_cons t w.piece.text (texts (comments s)) in omega (arith, e)
-            more_here false = omega arith
+        by false is y then = let e = comment_more (is_comment w.kind) w (comments s) t in omega (arith, few, e)
         by true is false then = absurd (true≢false (sym is ∙ (n.lost then).1))
         by true is true then =
             let other : is_comment w.kind ≡ true = ap is_comment (sym n.kind) ∙ is in
@@ -279,10 +229,10 @@ module _ (Firm Former Later : Type 0) (former : Firm → Former) (later : Firm �
     pub few : (x : List ℕ)
         → times x (texts (comments (added way))) ≤ times x (texts (comments (added s))) + times x (texts (comments (added t)))
 
-  abbrev pub Meets : List Step → List Step → Type 0
+  abbrev Meets : List Step → List Step → Type 0
   Meets s t = map bare_unit (news s) ≡ map bare_unit (olds t)
 
-  abbrev pub GoesOn : List Step → List Step → Type 0
+  abbrev GoesOn : List Step → List Step → Type 0
   GoesOn s t = (line mid next : Option Site) (a b d : ℕ) → Fits (c ∷ []) (ts ∷ []) before between line a b s
       → KeepsIf Former (c ∷ []) before between line mid a b s → IsSure Later c s
       → Fits cs more between after mid b d t → KeepsIf Later cs between after mid next b d t → Whole line next a d s t
@@ -297,30 +247,17 @@ module _ (Firm Former Later : Type 0) (former : Firm → Former) (later : Firm �
         news_are = ap (λ l. v ∷ l) r.news_are;
         fits = (asked fits.0, r.fits);
         keeps = (owed keeps.0, r.keeps);
-        few = λ x. counted_too r.way (is_comment v.kind) x (r.few x);
+        few = λ x. comment_on (is_comment v.kind) v (comments (added r.way)) (comments (added t)) x (times x (texts (comments (added s)))) (r.few x);
       }
     where
       asked : IsAsked cs more between after d v → IsAsked (c ∷ cs) (ts ∷ more) before after d v
       asked is = record {
-        line =
-            λ line. elim (is.line line) [
-              | inl owed ↦ inl (at_map (λ e o. inr o) v.address owed)
-              | inr last ↦ inr
-                  (last.0, last.1, (λ none. cc))
-            ];
+        line = λ line. elim (is.line line) [ inl owed ↦ inl (at_map (λ e o. inr o) v.address owed) | inr last ↦ inr (last.0, last.1, (λ none. cc)) ];
         comment = λ comment. let w = is.comment comment in (w.0, inr w.1);
       }
 
       owed : ComesOwed cs between after v → ComesOwed (c ∷ cs) before after v
       owed is line none = elim (is line none) [ inl blank ↦ inl blank | inr below ↦ inr (at_map (λ e o. inr o) v.address below) ]
-
-      counted_too : (r : List Step) (z : Bool) (x : List ℕ)
-          → times x (texts (comments (added r))) ≤ times x (texts (comments (added s))) + times x (texts (comments (added t)))
-          → times x (texts (cond z (v ∷ comments (added r)) (comments (added r)))) ≤ times x (texts (comments (added s))) + times x
-          (texts (cond z (v ∷ comments (added t)) (comments (added t))))
-      counted_too r true x few = let e = times_cons x v.piece.text (texts (comments (added r))) in let f = times_cons x v.piece.text
-          (texts (comments (added t))) in omega (arith, few, e, f)
-      counted_too r false x few = few
 
   goes : (u : TextUnit) (s t : List Step) → GoesOn s t → GoesOn (old u ∷ s) t
   goes u s t go line mid next a b d fit keep sure fits keeps =
@@ -423,13 +360,8 @@ module _ (Firm Former Later : Type 0) (former : Firm → Former) (later : Firm �
         news_are = r.news_are;
         fits = r.fits;
         keeps = r.keeps;
-        few = λ y. let e = r.few y in let f = fewer (is_comment w.kind) y in omega (arith, e, f);
+        few = λ y. let e = r.few y in let f = comment_more (is_comment w.kind) w (comments (added s)) y in omega (arith, e, f);
       }
-    where
-      fewer : (z : Bool) (y : List ℕ)
-          → times y (texts (comments (added s))) ≤ times y (texts (cond z (w ∷ comments (added s)) (comments (added s))))
-      fewer true y = let e = times_cons y w.piece.text (texts (comments (added s))) in omega (arith, e)
-      fewer false y = omega arith
   came w s go (both x v ∷ t) is = λ line mid next a b d fit keep sure fits keeps.
       let same = head w x (news s) (olds t) is in
       let n = bared_match mid next b d w x v same fits.0 in

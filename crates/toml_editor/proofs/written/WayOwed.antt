@@ -127,7 +127,7 @@ owes_of (remove p) r a is = absurd is
 owes_of (new_section p) r a is = inr is
 owes_of (new_element p) r a is = inr is
 
-pub owed_below : (cs : List Change) (a : Address) → IsOwedBelow cs a → IsOwed cs a
+owed_below : (cs : List Change) (a : Address) → IsOwedBelow cs a → IsOwed cs a
 owed_below [] a is = is
 owed_below (c ∷ cs) a (inl (r, to, is, goes, owes)) = inl (r, to, is, goes, owes_of c to a owes)
 owed_below (c ∷ cs) a (inr more) = inr (owed_below cs a more)
@@ -150,7 +150,7 @@ owes_on (new_section p) r a to b up down is = elim is [ inl x ↦ inl (up x) | i
 owes_on (new_element p) r a to b up down is = elim is [ inl x ↦ inl (up x) | inr x ↦ inr (down x) ]
 
 -- what the first edit owes it owes where the others carry it, if what is below goes along
-pub owed_on : (c : Change) (cs : List Change) (a b : Address) → carried cs a ≡ Some b
+owed_on : (c : Change) (cs : List Change) (a b : Address) → carried cs a ≡ Some b
     → ((rest : Address) → carried cs (a ++ rest) ≡ option_map (λ x. x ++ rest) (carried cs a)) → IsOwed (c ∷ []) a → IsOwed (c ∷ cs) b
 owed_on c cs a b goes all (inr none) = absurd none
 owed_on c cs a b goes all (inl (r, q, is, same, owes)) =
@@ -187,7 +187,7 @@ below_there (remove p) r a to b was is = was
 below_there (new_section p) r a to b was is = is
 below_there (new_element p) r a to b was is = is
 
-pub below_on : (c : Change) (cs : List Change) (a b : Address) → carried cs a ≡ Some b → IsOwedBelow (c ∷ []) a → IsOwedBelow (c ∷ cs) b
+below_on : (c : Change) (cs : List Change) (a b : Address) → carried cs a ≡ Some b → IsOwedBelow (c ∷ []) a → IsOwedBelow (c ∷ cs) b
 below_on c cs a b goes (inr none) = absurd none
 below_on c cs a b goes (inl (r, q, is, same, owes)) =
     let owes' = at_itself (λ x. OwesBelow c x a) r q same owes in
@@ -209,3 +209,29 @@ written_on c cs ts more w v same goes (inl (there, q, is, at)) =
     by None x goes at = absurd at
     by (Some a) None goes at = absurd goes
     by (Some a) (Some b) goes at = at_front cs (place c) a b goes at
+
+-- ---- what it owes where the others carry that on
+
+pub at_map : {P Q : Address → Type 0} → ((a : Address) → P a → Q a) → (o : Option Address) → At o P → At o Q
+at_map f None h = h
+at_map f (Some a) h = f a h
+
+-- what the first edit owes of a line that the others do not name
+pub record OwedOn (c : Change) (cs : List Change) (base : Option ℕ) (o : Option Address) : Type 0 where
+  pub owed : At o (IsOwed (c ∷ cs))
+  pub header : base ≡ None → At o (IsOwedBelow (c ∷ cs))
+
+pub line_owed : (c : Change) (cs : List Change) (base : Option ℕ) (o x : Option Address) → stands parts.Line cs o base ≡ true
+    → IsCarriedTo cs o x
+    → At o (IsOwed (c ∷ [])) → (base ≡ None → At o (IsOwedBelow (c ∷ []))) → OwedOn c cs base x
+line_owed c cs base None x kept goes owed header = absurd owed
+line_owed c cs base (Some a) None kept goes owed header = absurd goes
+line_owed c cs None (Some a) (Some b) kept goes owed header =
+    let below = below_on c cs a b goes (header refl) in record { owed = owed_below (c ∷ cs) b below; header = λ is. below }
+line_owed c cs (Some n) (Some a) (Some b) kept goes owed header =
+    record { owed = owed_on c cs a b goes (λ rest. along parts.Line (Some n) tt cs a rest kept) owed; header = λ is. cc }
+
+pub below_carried : (c : Change) (cs : List Change) (o x : Option Address) → IsCarriedTo cs o x → At o (IsOwedBelow (c ∷ [])) → At x (IsOwedBelow (c ∷ cs))
+below_carried c cs None x goes below = absurd below
+below_carried c cs (Some a) None goes below = absurd goes
+below_carried c cs (Some a) (Some b) goes below = below_on c cs a b goes below

@@ -33,7 +33,7 @@ use Rattle.toml_editor.proofs.written.WayWhole.{HasWay, HasWayIf, as_many}
 use Rattle.toml_editor.proofs.written.WayZip.{IsNear, lost_line, no_comment_lost, carried_to, zip, lines_in, zip_olds, zip_news, zip_fits}
 use Rattle.toml_editor.proofs.written.UnitsPut.{IsPutWell, block, formed_well, puts_lines}
 
-pub all_same : (us : List TextUnit) → GoTogether (λ u w. u ≡ w) us us
+all_same : (us : List TextUnit) → GoTogether (λ u w. u ≡ w) us us
 all_same [] = tt
 all_same (u ∷ us) = (refl, all_same us)
 
@@ -70,7 +70,7 @@ module _ (c : Change) (ts : List (List ℕ)) (block : List TextUnit) (puts : Put
   all_fixed (u ∷ us) = ((stays_at u.address, puts.header u), all_fixed us)
 
   -- the block comes, all else goes along
-  abbrev pub put_steps : {Formed : Type 0} {us ws : List TextUnit} {before after : List (List ℕ)} → IsPutWell Formed us block ws before after → List Step
+  abbrev put_steps : {Formed : Type 0} {us ws : List TextUnit} {before after : List (List ℕ)} → IsPutWell Formed us block ws before after → List Step
   put_steps well = zip well.put.front well.put.front ++ (map new block ++ zip well.put.back well.put.back)
 
   some_lines : (us : List TextUnit) → BeginWithLine us → (us ≡ []) ⊎ (0 < lines_in us)
@@ -171,10 +171,10 @@ module _ (c : Change) (ts : List (List ℕ)) (block : List TextUnit) (puts : Put
           subst (λ n. SameNewline (c ∷ []) (ts ∷ []) before after n n) e (elim (well.front_ends x low) [ inl is ↦ inl is | inr last ↦ inr (inl last) ])
 
   -- each is asked for wherever it stands
-  abbrev pub AreAsked : Type 0
+  abbrev AreAsked : Type 0
   AreAsked = (before after : List (List ℕ)) → EachIs (λ w. (k : ℕ) → IsAsked (c ∷ []) (ts ∷ []) before after k w) block
 
-  pub put_way : (lines edited : List Line) → AreLines lines → EachIs (ComesOwed (c ∷ []) (newlines lines) (newlines edited)) block → AreAsked
+  put_way : (lines edited : List Line) → AreLines lines → EachIs (ComesOwed (c ∷ []) (newlines lines) (newlines edited)) block → AreAsked
       → IsPutWell (AreLines lines) (units lines) block (units edited) (newlines lines) (newlines edited) → HasWay (c ∷ []) (ts ∷ []) lines edited
   put_way lines edited formed comes asked well =
       let before = newlines lines in

@@ -55,7 +55,7 @@ module _ (table : Address) (name : List ℕ) (before after : List (List ℕ)) wh
   abbrev Fit : Option Site → ℕ → ℕ → List Step → Type 0
   Fit = Fits (c ∷ []) ([] ∷ []) before after
 
-  abbrev pub IsHome : Option Site → Type 0
+  abbrev IsHome : Option Site → Type 0
   IsHome line = home_stands (c ∷ []) line ≡ true
 
   -- a unit that is not at the name or below it

@@ -97,6 +97,21 @@ lost_line c plain line u is_line lost = by u.kind is_line u.address refl lost
     by kinds.TailComment e o at lost = cc
     by kinds.InnerComment e o at lost = cc
 
+-- where an edit leaves each line protected as the home of comments, and each comment as such, it takes none away
+pub comments_stay : (c : Change) → ((line : Option Site) → home_stands (c ∷ []) line ≡ true)
+    → ((a : Option Address) (base : Option ℕ) → stands parts.Comment (c ∷ []) a base ≡ true)
+    → (line : Option Site) (u : TextUnit) → is_here (c ∷ []) line u ≡ false → is_comment u.kind ≡ false
+comments_stay c homes self line u lost = by u.kind u.address u.base lost
+  where
+    by : (kind : UnitKind) (a : Option Address) (base : Option ℕ)
+        → is_kept kind (c ∷ []) (next_line line (record { kind = kind; address = a; base = base })) (record { kind = kind; address = a; base = base }) ≡ false
+        → is_comment kind ≡ false
+    by kinds.Line a base lost = refl
+    by kinds.Pair a base lost = refl
+    by kinds.Element a base lost = refl
+    by kinds.TailComment a base lost = absurd (true≢false (sym (homes line) ∙ lost))
+    by kinds.InnerComment a base lost = absurd (true≢false (sym (ap₂ (λ x y. x && y) (homes line) (self a base)) ∙ lost))
+
 -- an edit that takes no unit away
 abbrev pub TakesNone : Change → Type 0
 TakesNone (insert p text) = Unit {0}
@@ -132,14 +147,7 @@ homes_here c none None = refl
 homes_here c none (Some l) = home_here c none l
 
 pub no_comment_lost : (c : Change) → TakesNone c → (line : Option Site) (u : TextUnit) → is_here (c ∷ []) line u ≡ false → is_comment u.kind ≡ false
-no_comment_lost c none line u lost = by u.kind u.address u.base lost
-  where
-    by : (kind : UnitKind) (a : Option Address) (base : Option ℕ) → is_kept kind (c ∷ []) (next_line line (record { kind = kind; address = a; base = base })) (record { kind = kind; address = a; base = base }) ≡ false → is_comment kind ≡ false
-    by kinds.Line a base lost = refl
-    by kinds.Pair a base lost = refl
-    by kinds.Element a base lost = refl
-    by kinds.TailComment a base lost = absurd (true≢false (sym (homes_here c none line) ∙ lost))
-    by kinds.InnerComment a base lost = absurd (true≢false (sym (ap₂ (λ x y. x && y) (homes_here c none line) (self_here c none a base)) ∙ lost))
+no_comment_lost c none = comments_stay c (homes_here c none) (self_here c none)
 
 -- an address and where it is carried
 pub carried_to : (c : Change) (a w : Option Address) → w ≡ option_and_then (carry c) a → ((x : Address) → a ≡ Some x → (b : Address) × (carry c x ≡ Some b)) → IsCarriedTo (c ∷ []) a w

@@ -35,6 +35,7 @@ RoleHas Header k = k ≡ a_table
 RoleHas Dotted k = k ≡ a_table
 RoleHas Element k = k ≡ a_table
 
+-- it is of the kind that its role tells
 abbrev pub HasKind : Named → Type 0
 HasKind m = RoleHas m.role m.kind
 

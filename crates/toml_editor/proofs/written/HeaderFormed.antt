@@ -9,7 +9,7 @@ use Rattle.toml_tree.specs.declared.profile.Profile.{Profile}
 use Rattle.toml_tree.specs.declared.profile.Profile.TheVariants.{One, Two}
 use Rattle.toml_names.specs.mentions.Keys.{Key}
 use Rattle.toml_names.specs.mentions.Mentions.{named}
-use Rattle.toml_names.specs.model.Addresses.{Address, child}
+use Rattle.toml_names.specs.model.Addresses.{Address}
 use Rattle.toml_layout.specs.declared.tree.Brackets.{Brackets}
 use Rattle.toml_layout.specs.declared.tree.Brackets.TheVariants as brackets
 use Rattle.toml_working.specs.Heading.{dotted_name, header_expr, header_line, key_named}
@@ -17,7 +17,7 @@ use Rattle.toml_working.specs.Headers.{names_of}
 use Rattle.toml_working.specs.Removing.{empty_line}
 use Rattle.toml_editor.proofs.Each.{each_append, each_front, each_back}
 use Rattle.toml_editor.proofs.written.Formed.{line_before}
-use Rattle.toml_editor.proofs.written.HeaderPut.{IsHeaderPut, IsSectionPut, ended}
+use Rattle.toml_editor.proofs.written.HeaderPut.{IsHeaderPut, ended}
 use Rattle.toml_editor.proofs.written.InsertSpaced.{first_formed}
 use Rattle.toml_editor.proofs.written.SectionNamed.{HasNames, header_names_some}
 
@@ -97,12 +97,3 @@ pub header_of_profile : (profile : Profile) (b : Brackets) (p : Address) (style 
     → AreLinesOfProfile profile old → AreLinesOfProfile profile new
 header_of_profile One b p style old new put is = header_plain b p style old new put is
 header_of_profile Two b p style old new put is = tt
-
--- ---- sections
-
-pub section_forms : (q : Address) (name style : List ℕ) (old new : List Line) → IsSectionPut (child q name) style old new → AreLines old → IsNewline style → AreLines new
-section_forms q name = header_forms brackets.One (child q name)
-
-pub section_of_profile : (profile : Profile) (q : Address) (name style : List ℕ) (old new : List Line) → IsSectionPut (child q name) style old new
-    → AreLinesOfProfile profile old → AreLinesOfProfile profile new
-section_of_profile profile q name = header_of_profile profile brackets.One (child q name)

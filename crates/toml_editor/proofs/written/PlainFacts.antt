@@ -1,4 +1,4 @@
--- Where layout `Plain` puts the header line of a new element: it may stand there, and no line behind stands at its array or below it.
+-- Where layout `Plain` puts the header line of a section or an element without a fault.
 use Rattle.std.proofs.Common.{◌≡◌, ◌⊎◌, inl, inr, ℕ, Bool, true, false, ◌||◌, Option, Some, None, List, [], ◌∷◌, ◌++◌, length, length-append, refl, sym, ap, ap₂, ◌∙◌, subst, true≢false, append-nil, append_assoc}
 use Rattle.std.specs.List.{list_any}
 use Rattle.toml_tree.specs.Spells.{AreLines, EachIs}
@@ -13,7 +13,7 @@ use Rattle.toml_names.specs.model.Data.{IsDataOf, Kinds}
 use Rattle.toml_names.specs.reader.Names.{own_address}
 use Rattle.toml_names.proofs.Proved.{header_is_section}
 use Rattle.toml_layout.specs.Beginnings.{begins}
-use Rattle.toml_layout.specs.declared.tree.Brackets.TheVariants.{Two}
+use Rattle.toml_layout.specs.declared.tree.Brackets.TheVariants.{One, Two}
 use Rattle.toml_working.specs.declared.lines.Sought.TheVariants as sought
 use Rattle.toml_working.specs.Heading.{header_lines}
 use Rattle.toml_working.specs.Headers.{has_below, inner_of, innermost, new_header, put_plainly}
@@ -23,14 +23,16 @@ use Rattle.toml_working.specs.Standing.{holds, is_below, lies_below, line_stands
 use Rattle.toml_editor.proofs.written.Alike.{section_pair}
 use Rattle.toml_editor.proofs.written.Counted.{names_last}
 use Rattle.toml_editor.proofs.written.DocumentSections.{named_next}
-use Rattle.toml_editor.proofs.written.ElementCounted.{apart_element, next_leads, under_begins}
+use Rattle.toml_editor.proofs.written.ElementCounted.{apart_element, next_leads}
 use Rattle.toml_editor.proofs.written.ElementHeaded.{element_headed, inner_is, none_holds}
 use Rattle.toml_editor.proofs.written.EmptyAlone.{not_any}
-use Rattle.toml_editor.proofs.written.HeaderPlace.{header_put}
+use Rattle.toml_editor.proofs.written.HeaderLeads.{leads}
+use Rattle.toml_editor.proofs.written.HeaderPlace.{header_put_plainly}
 use Rattle.toml_editor.proofs.written.HeaderPut.{IsApart}
-use Rattle.toml_editor.proofs.written.HeaderThere.{IsPlaced}
-use Rattle.toml_editor.proofs.written.SectionFacts.{IsNextElement}
-use Rattle.toml_editor.proofs.written.TablesStay.{begins_under}
+use Rattle.toml_editor.proofs.written.HeaderThere.{StandsWithHeader}
+use Rattle.toml_editor.proofs.written.HeaderFacts.{IsNextElement, IsRoom}
+use Rattle.toml_editor.proofs.written.TablesStay.{begins_under, under_begins}
+use Rattle.toml_editor.specs.EditedLines.{IsInNoValue}
 
 -- names lead to no other innermost element
 inner_child : (r : Address) (n : List ℕ) → innermost (child r n) ≡ innermost r
@@ -97,13 +99,25 @@ module _ (e array : Address) (i : ℕ) (e_is : e ≡ element array i) (rest : Ad
       by (TableLine ws header tail) is or' off = headed (TableLine ws header tail) tt off
       by (ArrayTableLine ws header tail) is or' off = headed (ArrayTableLine ws header tail) tt off
 
--- by layout `Plain` the header line goes where it may stand
-pub element_goes : (q : Address) (i : ℕ) (style : List ℕ) (lines : List Line) (kinds : Kinds) → AreLines lines → KeepsRules (named lines) → IsDataOf (named lines) kinds
-    → IsNextElement q i kinds → list_any (holds q) (standing lines) ≡ false
-    → IsPlaced Two (element q i) style lines (header_lines q Two (element q i) style lines)
+-- ---- by layout `Plain` the header line is put in where it may stand
+
+-- that of a section
+pub section_put_plainly : (q : Address) (name style : List ℕ) (lines : List Line) (Blank : Type 0) (kinds : Kinds) → AreLines lines → KeepsRules (named lines)
+    → IsDataOf (named lines) kinds → IsRoom q name kinds → IsInNoValue lines q
+    → StandsWithHeader One (child q name) style lines Blank (header_lines q One (child q name) style lines)
+    (put_plainly (innermost q) (new_header (child q name) One []) style (standing lines))
+section_put_plainly q name style lines Blank kinds forms keeps facts room outside =
+    header_put_plainly One (child q name) q style lines Blank forms
+    (λ front back split reached apart. leads lines front back q name [] kinds split keeps facts room.table reached)
+    (element_headed lines q kinds keeps facts room.table outside) (λ e inner front back unkeyed unheaded. tt)
+
+-- and that of an element
+pub element_put_plainly : (q : Address) (i : ℕ) (style : List ℕ) (lines : List Line) (Blank : Type 0) (kinds : Kinds) → AreLines lines → KeepsRules (named lines)
+    → IsDataOf (named lines) kinds → IsNextElement q i kinds → list_any (holds q) (standing lines) ≡ false
+    → StandsWithHeader Two (element q i) style lines Blank (header_lines q Two (element q i) style lines)
     (put_plainly (innermost q) (new_header (element q i) Two []) style (standing lines))
-element_goes q i style lines kinds forms keeps facts next outside =
-    header_put Two (element q i) q style lines forms (next_leads q i lines kinds keeps facts next outside []) headed apart
+element_put_plainly q i style lines Blank kinds forms keeps facts next outside =
+    header_put_plainly Two (element q i) q style lines Blank forms (next_leads q i lines kinds keeps facts next outside []) headed apart
   where
     headed : (e : Address) → innermost q ≡ Some e → has_below e (standing lines) ≡ true
     headed e inner =
