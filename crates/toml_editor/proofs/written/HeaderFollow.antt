@@ -108,9 +108,11 @@ module _ (profile : Profile) (read : Read) (old new : Tree) (brackets : Brackets
       written r = blank_standing r p brackets (manner old) (may_write_blank old) (standing lines)
 
   -- it is made, and the tree then stands for the lines with it
-  header_made : (put : List Line) → standing put ≡ header_laid_out (manner old).layout q p brackets (manner old) (may_write_blank old) (standing lines)
-      → (done ≡ true) × Stands (text_of new.texts.source) read new.slots.items (standing put) × (manner new ≡ manner_behind brackets p (manner old) lines)
-  header_made put laid =
+  header_made : StandsInLayout (manner old).layout q brackets (q ++ last ∷ []) (manner old) lines
+      → (done ≡ true) × Stands (text_of new.texts.source) read new.slots.items (standing (header_put_in (manner old).layout q brackets p (manner old) lines))
+      × (manner new ≡ manner_behind brackets p (manner old) lines)
+  header_made there =
+      let laid = subst Laid (sym own) there.stands in
       let (stands, told, blank) = header_told profile read old new brackets p q last text kinds at own array steps spells done puts in (
         told ∙ ap not outside,
         subst₂ (λ (s : Texts) ls. Stands (text_of s.source) read new.slots.items ls) (sym rest.texts) (cond-false _ _ _ outside ∙ sym laid) stands,
@@ -156,10 +158,6 @@ element_follows profile read old new p text kinds now at none is_after (q, i, ow
       follows profile read (new_element p) old new text kinds now put at.newline at.good none is_after (q, i, own, outside, refl) stands
           (subst NoneIsGone (sym rest.elements) at.whole) rest.texts mannered,
     )
-  where
-    no_child : (r : Address) (n : List ℕ) → ¬ ([] ≡ child r n)
-    no_child [] n h = cc
-    no_child (t ∷ r) n h = cc
 
 -- ---- where a header line is not put in
 
