@@ -17,6 +17,7 @@ pub mod DocumentSections
 pub mod ElementCounted
 pub mod ElementHeaded
 pub mod ElementKept
+pub mod ElementLeads
 pub mod ElementNamed
 pub mod Elsewhere
 pub mod EmptiedLine
@@ -43,7 +44,7 @@ pub mod HeaderFormed
 pub mod HeaderKept
 pub mod HeaderLaidOut
 pub mod HeaderLaws
-pub mod HeaderLeads
+pub mod HeaderNamed
 pub mod HeaderPlace
 pub mod HeaderPut
 pub mod HeaderSplit
@@ -91,6 +92,7 @@ pub mod Roles
 pub mod RootPairs
 pub mod ScalarsLone
 pub mod SectionKept
+pub mod SectionLeads
 pub mod SectionNamed
 pub mod SetFormed
 pub mod SetKept

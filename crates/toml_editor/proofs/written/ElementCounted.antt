@@ -1,43 +1,33 @@
--- How many tables an array of tables has by the data, and that the key of the header line of its next element leads to that.
+-- By the data an array of tables has as many tables as elements.
 use Rattle.std.proofs.Common.{◌≡◌, ◌∙◌, ◌⊎◌, inl, inr, ℕ, zero, suc, ◌+◌, ◌<◌, ◌≤◌, Bool, true, false, ◌||◌, Some, None, IsSome, List, [], ◌∷◌, ◌++◌, length, length-append, refl, sym, ap, ap₂, subst, true≢false, append-nil, append_assoc, arith}
-use Rattle.std.proofs.lemmas.List.{same_from_push}
 use Rattle.std.specs.Bool.{nat_lt}
 use Rattle.std.specs.List.{list_any}
 use Rattle.std.proofs.lemmas.Bool.Decides.{nat_tests}
-use Rattle.std.proofs.lemmas.Option.{same_Some}
-use Rattle.toml_tree.specs.Bare.{fresh}
 use Rattle.toml_tree.specs.Spells.{EachIs}
 use Rattle.toml_tree.specs.Tree.{Expr, BlankLine, KeyValLine, TableLine, ArrayTableLine, Line}
-use Rattle.toml_names.specs.declared.model.address.Step.TheVariants.{Name, Index}
+use Rattle.toml_names.specs.declared.model.address.Step.TheVariants.{Index}
 use Rattle.toml_names.specs.mentions.Keys.{Key, key_names, part_name, rest_names}
-use Rattle.toml_names.specs.mentions.Mentions.{Kind, Named, a_table, an_array, count_tables, ends_tables, named, named_by, named_from, root, section}
-use Rattle.toml_names.specs.mentions.Rules.{KeepsRules}
+use Rattle.toml_names.specs.mentions.Mentions.{Kind, Named, count_tables, ends_tables, named, named_by, named_from, root, section}
 use Rattle.toml_names.specs.model.Addresses.{Address, below, child, element, same_address}
 use Rattle.toml_names.specs.model.Data.{IsDataOf, Kinds}
 use Rattle.toml_names.specs.reader.Names.{header_end, own_address}
 use Rattle.toml_names.proofs.Proved.{count-append}
 use Rattle.toml_units.specs.Units.{line_base}
 use Rattle.toml_layout.specs.Beginnings.{begins}
-use Rattle.toml_layout.specs.declared.tree.Brackets.TheVariants.{One, Two}
 use Rattle.toml_working.specs.declared.lines.Sought.TheVariants as sought
-use Rattle.toml_working.specs.Heading.{header_expr, key_named}
 use Rattle.toml_working.specs.Headers.{has_below}
-use Rattle.toml_working.specs.Removing.{no_blank}
 use Rattle.toml_working.specs.Seeing.{is_sought_line}
 use Rattle.toml_working.specs.Standing.{Standing, holds, is_below, leads_to, lies_below, standing, standing_from}
 use Rattle.toml_editor.proofs.written.Clear.{below-cons, same_is}
-use Rattle.toml_editor.proofs.written.Counted.{AreLast, count_array, count_next, count_none, count_pair, count_table, counts_grow, last_or_earlier, one_if, own_counts}
+use Rattle.toml_editor.proofs.written.Counted.{count_array, count_next, count_none, count_pair, count_table, counts_grow, last_or_earlier, one_if, own_counts}
 use Rattle.toml_editor.proofs.written.CountedArrays.{IsNamedLast, element_unnamed, followed_has}
 use Rattle.toml_editor.proofs.written.DocumentSections.{line_of, named_next}
 use Rattle.toml_editor.proofs.written.ElementHeaded.{some_named, unheaded_unnamed}
 use Rattle.toml_editor.proofs.written.EmptyAlone.{not_any}
-use Rattle.toml_editor.proofs.written.HeaderLeads.{IsNamedAt, leads}
+use Rattle.toml_editor.proofs.written.SectionLeads.{IsNamedAt}
 use Rattle.toml_editor.proofs.written.HeaderPlace.{below_is}
-use Rattle.toml_editor.proofs.written.HeaderPut.{IsApart}
 use Rattle.toml_editor.proofs.written.OneSection.{among_of}
 use Rattle.toml_editor.proofs.written.Pairwise.{Has, any_of_has, has_append_left, has_append_right}
-use Rattle.toml_editor.proofs.written.HeaderFacts.{IsNextElement}
-use Rattle.toml_editor.proofs.written.SectionNamed.{names_of_element}
 use Rattle.toml_editor.proofs.written.StandingOrder.{begins_is}
 use Rattle.toml_editor.proofs.written.TablesStay.{under_begins}
 
@@ -132,7 +122,7 @@ module _ (q : Address) where
           let c = count_tables xs at in
           absurd (true≢false (sym (under_begins q (element at c) (Index c ∷ [], ap (λ x. element x c) (same_is at q same))) ∙ away))
 
-  count_away : (back front : List Line) → EachIs (λ s. is_below q s ≡ false) (standing_from (named front) (length front) back)
+  pub count_away : (back front : List Line) → EachIs (λ s. is_below q s ≡ false) (standing_from (named front) (length front) back)
       → count_tables (named (front ++ back)) q ≡ count_tables (named front) q
   count_away [] front away = ap (λ ls. count_tables (named ls) q) (append-nil front)
   count_away (l ∷ back) front away =
@@ -200,7 +190,7 @@ module _ (q : Address) where
             omega (arith, here, grow, all)
 
     -- So the array has as many tables as the data have elements.
-    count_is : (i : ℕ) → kinds (element q i) ≡ None → ((j : ℕ) → j < i → IsSome (kinds (element q j))) → count_tables (named lines) q ≡ i
+    pub count_is : (i : ℕ) → kinds (element q i) ≡ None → ((j : ℕ) → j < i → IsSome (kinds (element q j))) → count_tables (named lines) q ≡ i
     count_is i free there = by (nat_lt i (count_tables (named lines) q)) refl
       where
         c : ℕ
@@ -220,56 +210,3 @@ module _ (q : Address) where
             let high : c ≤ i = grind (arith, nat_tests, not_more) in
             let low = at_least i refl in
             omega (arith, high, low)
-
--- ---- the key
-
--- The key of an element's header leads to it, from where each index of the array's address is that of the last table of its array, and the array
--- has as many tables as the index says.
-element_leads : (lines front back : List Line) (r : Address) (n : List ℕ) (i : ℕ) (ws : List ℕ) (kinds : Kinds) → lines ≡ front ++ back → KeepsRules (named lines)
-    → IsDataOf (named lines) kinds → kinds r ≡ Some a_table → AreLast (named front) (child r n) → count_tables (named front) (child r n) ≡ i
-    → own_address (named front) (header_expr Two (element (child r n) i) ws) ≡ Some (element (child r n) i)
-element_leads lines front back r n i ws kinds parts keeps facts table last count =
-    ap (λ ns. own_address xs (header_expr_of ns)) (names_of_element q i)
-    ∙ ap (λ at. Some (element at (count_tables xs at))) (same_Some _ q leads_there) ∙ ap (λ c. Some (element q c)) count
-  where
-    q : Address
-    q = child r n
-
-    xs : List Named
-    xs = named front
-
-    header_expr_of : List (List ℕ) → Expr
-    header_expr_of ns = ArrayTableLine (fresh ws) (record { before = fresh []; key = key_named ns; after = fresh [] }) no_blank
-
-    in_table : AreLast xs r
-    in_table a rest k is = last a (rest ++ Name n ∷ []) k (ap (λ x. child x n) is ∙ append_assoc a (Index k ∷ rest) (Name n ∷ []))
-
-    leads_there : own_address xs (header_expr One q ws) ≡ Some q
-    leads_there = leads lines front back r n ws kinds parts keeps facts table in_table
-
--- so it is of the next element, where the lines behind are apart from its array
-pub apart_element : (q : Address) (i : ℕ) (front back : List Line) → list_any (is_below q) (standing_from (named front) (length front) back) ≡ false
-    → IsApart Two (element q i) front back
-apart_element q i front back none a j is =
-    subst (λ x. list_any (is_below x) (standing_from (named front) (length front) back) ≡ false) (same_from_push q a (Index i) (Index j) is).0 none
-
-module _ (q : Address) (i : ℕ) (lines : List Line) (kinds : Kinds) (keeps : KeepsRules (named lines)) (facts : IsDataOf (named lines) kinds)
-    (next : IsNextElement q i kinds) (outside : list_any (holds q) (standing lines) ≡ false) where
-  next_count : count_tables (named lines) q ≡ i
-  next_count = count_is q lines kinds facts outside i next.free (elements next.next)
-    where
-      elements : ((kinds q ≡ None) × (i ≡ 0)) ⊎ ((kinds q ≡ Some an_array) × ((j : ℕ) → j < i → IsSome (kinds (element q j))))
-          → (j : ℕ) → j < i → IsSome (kinds (element q j))
-      elements (inl first) j low = absurd (let zero_is = first.1 in omega (arith, zero_is, low))
-      elements (inr more) j low = more.1 j low
-
-  -- so does that of the next element
-  pub next_leads : (ws : List ℕ) (front back : List Line) → lines ≡ front ++ back → AreLast (named front) q → IsApart Two (element q i) front back
-      → own_address (named front) (header_expr Two (element q i) ws) ≡ Some (element q i)
-  next_leads ws front back split last apart =
-      let (r, n, q_is, table) = next.table in
-      subst (λ x. own_address (named front) (header_expr Two (element x i) ws) ≡ Some (element x i)) (sym q_is)
-      (element_leads lines front back r n i ws kinds split keeps facts table (subst (AreLast (named front)) q_is last)
-      (ap (count_tables (named front)) (sym q_is)
-      ∙ sym (count_away q back front (not_any (is_below q) (standing_from (named front) (length front) back) (apart q i refl)))
-      ∙ ap (λ ls. count_tables (named ls) q) (sym split) ∙ next_count))

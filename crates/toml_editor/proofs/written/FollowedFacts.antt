@@ -22,11 +22,11 @@ use Rattle.toml_working.specs.Standing.{Standing, holds, is_below, lies_below, s
 use Rattle.toml_working.specs.HeadingFollowed.{header_followed, header_line_behind, line_behind_family, or_header_at_end}
 use Rattle.toml_editor.proofs.written.BelowPlace.{standing_behind}
 use Rattle.toml_editor.proofs.written.Counted.{AreLast, last_child}
-use Rattle.toml_editor.proofs.written.ElementCounted.{apart_element, next_leads}
+use Rattle.toml_editor.proofs.written.ElementLeads.{apart_element, next_leads}
 use Rattle.toml_editor.proofs.written.ElementHeaded.{away_unnamed, none_holds, some_named}
 use Rattle.toml_editor.proofs.written.EmptyAlone.{IsAway, not_any}
 use Rattle.toml_editor.proofs.written.FollowedPlace.{header_put_following}
-use Rattle.toml_editor.proofs.written.HeaderLeads.{leads}
+use Rattle.toml_editor.proofs.written.SectionLeads.{name_leads}
 use Rattle.toml_editor.proofs.written.HeaderPut.{IsApart}
 use Rattle.toml_editor.proofs.written.HeaderSplit.{any_back}
 use Rattle.toml_editor.proofs.written.HeaderThere.{StandsWithHeader}
@@ -99,7 +99,7 @@ pub section_put_following : (q : Address) (name style : List ℕ) (may : Bool) (
 section_put_following q name style may lines kinds forms keeps facts room outside =
     subst (λ f. StandsWithHeader One p style lines Blank (header_at f) (put_at f)) (sym family_is)
     (header_put_following One p q q style may lines Blank forms (λ xs last. last)
-    (λ ws front back split last apart. leads lines front back q name ws kinds split keeps facts room.table last)
+    (λ ws front back split last apart. name_leads lines front back q name ws kinds split keeps facts room.table last)
     (line_below lines kinds facts q (subst IsSome (sym room.table) refl) outside) (λ front back split none. tt)
     (λ absent due. ap₂ (λ o b. not (is_some o) && b) (ap beside family_is ∙ absent) due))
   where

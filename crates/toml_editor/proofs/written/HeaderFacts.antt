@@ -44,7 +44,7 @@ section_room profile q name kinds none = record {
 -- ---- an element
 
 -- the array is not there, and so many are none, or it is there, and has so many elements
-abbrev HasSoMany : Kinds → Address → ℕ → Type 0
+abbrev pub HasSoMany : Kinds → Address → ℕ → Type 0
 HasSoMany kinds q i = ((kinds q ≡ None) × (i ≡ 0)) ⊎ ((kinds q ≡ Some an_array) × ((j : ℕ) → j < i → IsSome (kinds (element q j))))
 
 -- The element is the next one of its array, which a table has, or which is not there: then it is the first one.

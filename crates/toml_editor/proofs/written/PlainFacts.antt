@@ -23,10 +23,10 @@ use Rattle.toml_working.specs.Standing.{holds, is_below, lies_below, line_stands
 use Rattle.toml_editor.proofs.written.Alike.{section_pair}
 use Rattle.toml_editor.proofs.written.Counted.{names_last}
 use Rattle.toml_editor.proofs.written.DocumentSections.{named_next}
-use Rattle.toml_editor.proofs.written.ElementCounted.{apart_element, next_leads}
+use Rattle.toml_editor.proofs.written.ElementLeads.{apart_element, next_leads}
 use Rattle.toml_editor.proofs.written.ElementHeaded.{element_headed, inner_is, none_holds}
 use Rattle.toml_editor.proofs.written.EmptyAlone.{not_any}
-use Rattle.toml_editor.proofs.written.HeaderLeads.{leads}
+use Rattle.toml_editor.proofs.written.SectionLeads.{name_leads}
 use Rattle.toml_editor.proofs.written.HeaderPlace.{header_put_plainly}
 use Rattle.toml_editor.proofs.written.HeaderPut.{IsApart}
 use Rattle.toml_editor.proofs.written.HeaderThere.{StandsWithHeader}
@@ -108,7 +108,7 @@ pub section_put_plainly : (q : Address) (name style : List ℕ) (lines : List Li
     (put_plainly (innermost q) (new_header (child q name) One []) style (standing lines))
 section_put_plainly q name style lines Blank kinds forms keeps facts room outside =
     header_put_plainly One (child q name) q style lines Blank forms
-    (λ front back split reached apart. leads lines front back q name [] kinds split keeps facts room.table reached)
+    (λ front back split reached apart. name_leads lines front back q name [] kinds split keeps facts room.table reached)
     (element_headed lines q kinds keeps facts room.table outside) (λ e inner front back unkeyed unheaded. tt)
 
 -- and that of an element

@@ -170,11 +170,11 @@ pub key_again : (n : List ℕ) (names : Key) → key_names (key_named (n ∷ nam
 key_again n names = ap₂ (λ a b. a ∷ b) (spelled_again n) (names_again names)
 
 -- The key of a new section's header leads to its address, from where each index of the address is that of the last table of its array.
-pub leads : (lines front back : List Line) (q : Address) (name ws : List ℕ) (kinds : Kinds) → lines ≡ front ++ back → KeepsRules (named lines)
+pub name_leads : (lines front back : List Line) (q : Address) (name ws : List ℕ) (kinds : Kinds) → lines ≡ front ++ back → KeepsRules (named lines)
     → IsDataOf (named lines) kinds → kinds q ≡ Some a_table
     → ((r rest : Address) (i : ℕ) → q ≡ r ++ Index i ∷ rest → count_tables (named front) r ≡ i + 1)
     → own_address (named front) (header_expr One (child q name) ws) ≡ Some (child q name)
-leads lines front back q name ws kinds parts keeps data_is table last = by q refl
+name_leads lines front back q name ws kinds parts keeps data_is table last = by q refl
   where
     tables : (r rest : Address) (n : List ℕ) → child q name ≡ r ++ Name n ∷ rest → count_tables (named front) r ≡ 0
     tables r rest n is =
