@@ -6,15 +6,15 @@ use Rattle.std.specs.Option.{unwrap_or}
 use Rattle.std.proofs.lemmas.List.{append_cancel_left, append_cancel_right}
 use Rattle.std.proofs.lemmas.List.Folds.{list_any-append}
 use Rattle.std.proofs.lemmas.Option.{none-some}
-use Rattle.toml_names.specs.declared.model.address.Step.{Step}
 use Rattle.toml_names.specs.model.Addresses.{Address}
 use Rattle.toml_layout.specs.Outlines.{no_line}
 use Rattle.toml_working.specs.declared.lines.Slot.{Slot}
 use Rattle.toml_working.specs.declared.working.Position.{Position}
 use Rattle.toml_working.specs.Following.{EndsSectionAt, FillsFrom, FindsFamily, FindsLandmark, FindsLastBelow, IsBehindAll, IsLine, put_behind}
-use Rattle.toml_working.specs.FollowingHeaders.{behind_family, behind_last, behind_section, is_filled, right_above}
+use Rattle.toml_layout.specs.Holders.{parent_of}
+use Rattle.toml_working.specs.FollowingHeaders.{behind_family, behind_below, behind_section, is_filled}
 use Rattle.toml_working.specs.Headers.{element_of}
-use Rattle.toml_working.specs.InValues.{IsParent}
+use Rattle.toml_working.specs.Parents.{IsParent}
 use Rattle.toml_working.specs.InsertStanding.{has_pair, is_bare, pair_or}
 use Rattle.toml_working.specs.Placing.{FindsLastOf, IsPair, is_header, lines_before, lines_from}
 use Rattle.toml_working.specs.Seeing.{line_at}
@@ -25,6 +25,7 @@ use Rattle.toml_working.proofs.Placed.{behind_line, from_line, split_at}
 use Rattle.toml_working.proofs.Put.{before_next}
 use Rattle.toml_working.proofs.PutRoot.{Lead, has_front, pairs_lead}
 use Rattle.toml_working.proofs.WentUp.{both_no}
+use Rattle.toml_working.proofs.RemovedOne.{parent_is}
 
 -- ---- behind the section of a line
 
@@ -151,9 +152,9 @@ module _ (new : List Standing → Standing) where
   -- ---- the last line of the family
 
   last_in : (r : Address) (pre front : List Standing) (line : Standing) (between : List Standing) → is_below r line ≡ true → list_any (is_below r) between ≡ false
-      → behind_last r new pre (front ++ line ∷ between) ≡ option_map (λ t. front ++ t) (behind_section new (pre ++ front) (line ∷ between))
+      → behind_below r new pre (front ++ line ∷ between) ≡ option_map (λ t. front ++ t) (behind_section new (pre ++ front) (line ∷ between))
   last_in r pre [] line between below none =
-      ap (λ b. cond b (option_map (λ t. line ∷ t) (behind_last r new (pre ++ line ∷ []) between)) (cond (is_below r line) (behind_section new pre (line ∷ between)) None)) none
+      ap (λ b. cond b (option_map (λ t. line ∷ t) (behind_below r new (pre ++ line ∷ []) between)) (cond (is_below r line) (behind_section new pre (line ∷ between)) None)) none
       ∙ ap (λ b. cond b (behind_section new pre (line ∷ between)) None) below
       ∙ same (behind_section new pre (line ∷ between)) ∙ ap (λ f. option_map (λ t. t) (behind_section new f (line ∷ between))) (sym (append-nil pre))
     where
@@ -161,7 +162,7 @@ module _ (new : List Standing → Standing) where
       same None = refl
       same (Some r) = refl
   last_in r pre (x ∷ front) line between below none =
-      ap (λ b. cond b (option_map (λ t. x ∷ t) (behind_last r new (pre ++ x ∷ []) (front ++ line ∷ between))) (cond (is_below r x) (behind_section new pre (x ∷ (front ++ line ∷ between))) None))
+      ap (λ b. cond b (option_map (λ t. x ∷ t) (behind_below r new (pre ++ x ∷ []) (front ++ line ∷ between))) (cond (is_below r x) (behind_section new pre (x ∷ (front ++ line ∷ between))) None))
       (any_there r front line between below)
       ∙ ap (option_map (λ t. x ∷ t)) (last_in r (pre ++ x ∷ []) front line between below none)
       ∙ mapped_twice x front (behind_section new ((pre ++ x ∷ []) ++ front) (line ∷ between))
@@ -173,11 +174,11 @@ module _ (new : List Standing → Standing) where
           list_any-append (is_below r) front (line ∷ between) ∙ ap (λ b. list_any (is_below r) front || (b || list_any (is_below r) between)) below
           ∙ any_or (list_any (is_below r) front)
 
-  never_last : (r : Address) (pre ss : List Standing) → list_any (is_below r) ss ≡ false → behind_last r new pre ss ≡ None
+  never_last : (r : Address) (pre ss : List Standing) → list_any (is_below r) ss ≡ false → behind_below r new pre ss ≡ None
   never_last r pre [] none = refl
   never_last r pre (s ∷ ss) none =
       let parts = both_no (is_below r s) (list_any (is_below r) ss) none in
-      ap (λ b. cond b (option_map (λ t. s ∷ t) (behind_last r new (pre ++ s ∷ []) ss)) (cond (is_below r s) (behind_section new pre (s ∷ ss)) None)) parts.1
+      ap (λ b. cond b (option_map (λ t. s ∷ t) (behind_below r new (pre ++ s ∷ []) ss)) (cond (is_below r s) (behind_section new pre (s ∷ ss)) None)) parts.1
       ∙ ap (λ b. cond b (behind_section new pre (s ∷ ss)) None) parts.0
 
   pub no_family : (r : Address) (read : Read) (slots : List Slot) → FindsLastBelow r read slots None → behind_family r new (slots_standing read slots) ≡ None
@@ -199,7 +200,7 @@ module _ (new : List Standing → Standing) where
       let filled : list_any is_filled (lines_from read slots end.slot (end.index + 1)) ≡ more =
       ap (list_any is_filled) (sym (ap₂ (lines_from read slots) slot (index is_line.next))) ∙ sym fills in (
         is_line,
-        ap (behind_last (s ∷ r) new []) whole ∙ last_in (s ∷ r) [] front last.line last.between last.so last.none
+        ap (behind_below (s ∷ r) new []) whole ∙ last_in (s ∷ r) [] front last.line last.between last.so last.none
             ∙ ap (λ x. option_map (λ t. front ++ t) (behind_section new front x)) (sym from) ∙ put new
             ∙ ap (λ b. cond b (Some (put_behind new read slots end)) None) filled,
       )
@@ -257,26 +258,21 @@ below_there (s ∷ r) read slots at (end, behind, last) =
     ∙ ap (λ b. list_any (is_below (s ∷ r)) (lines_before read slots at.slot at.index) || (b || list_any (is_below (s ∷ r)) last.between)) last.so
     ∙ any_or (list_any (is_below (s ∷ r)) (lines_before read slots at.slot at.index))
 
-right_of : (r : Address) (s : Step) → right_above (r ++ s ∷ []) ≡ r
-right_of [] s = refl
-right_of (x ∷ []) s = refl
-right_of (x ∷ y ∷ r) s = ap (λ t. x ∷ t) (right_of (y ∷ r) s)
-
 module _ (q p : Address) (read : Read) (slots : List Slot) where
   -- that of the array or the table itself
   pub own_family : (at : Position) → FindsLastBelow q read slots (Some at) → FindsFamily q p read slots (Some at)
   own_family at found =
       subst (λ r. FindsLastBelow r read slots (Some at))
-      (sym (ap (λ b. cond (is_some (element_of p) && not b) (right_above q) q) (below_there q read slots at found) ∙ by (is_some (element_of p)))) found
+      (sym (ap (λ b. cond (is_some (element_of p) && not b) (parent_of q) q) (below_there q read slots at found) ∙ by (is_some (element_of p)))) found
     where
-      by : (b : Bool) → cond (b && false) (right_above q) q ≡ q
+      by : (b : Bool) → cond (b && false) (parent_of q) q ≡ q
       by true = refl
       by false = refl
 
   -- of a table
   pub table_family : (result : Option Position) → is_some (element_of p) ≡ false → FindsLastBelow q read slots result → FindsFamily q p read slots result
   table_family result is_table found =
-      subst (λ r. FindsLastBelow r read slots result) (sym (ap (λ b. cond (b && not (list_any (is_below q) (slots_standing read slots))) (right_above q) q) is_table)) found
+      subst (λ r. FindsLastBelow r read slots result) (sym (ap (λ b. cond (b && not (list_any (is_below q) (slots_standing read slots))) (parent_of q) q) is_table)) found
 
   -- of an element whose array has no line
   pub array_family : (parent : Address) (result : Option Position) → is_some (element_of p) ≡ true → (q ≡ [] → ⊥) → IsParent q parent → FindsLastBelow q read slots None
@@ -285,7 +281,7 @@ module _ (q p : Address) (read : Read) (slots : List Slot) where
   array_family parent result element not_root (inr (s, is)) none found =
       let empty = none_there q not_root none in
       subst (λ r. FindsLastBelow r read slots result)
-      (sym (ap₂ (λ b c. cond (b && not c) (right_above q) q) element empty ∙ ap right_above is ∙ right_of parent s)) found
+      (sym (ap₂ (λ b c. cond (b && not c) (parent_of q) q) element empty ∙ ap parent_of is ∙ parent_is parent s)) found
     where
       none_there : (r : Address) → (r ≡ [] → ⊥) → FindsLastBelow r read slots None → list_any (is_below r) (slots_standing read slots) ≡ false
       none_there [] not_root h = absurd (not_root refl)

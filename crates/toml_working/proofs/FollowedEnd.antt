@@ -20,7 +20,8 @@ use Rattle.toml_working.specs.declared.lines.Slot.{Slot}
 use Rattle.toml_working.specs.declared.working.Position.{Position}
 use Rattle.toml_working.specs.declared.working.Tree.{Tree}
 use Rattle.toml_working.specs.Following.{BeginsHeader, FindsBeside, IsBehindAll, IsLastThat, PutsAtEnd, PutsBeside, PutsBlank, TellsAt, TellsClose, TellsFilled, TellsBlankDue, TreeFollows, may_write_blank, put_behind}
-use Rattle.toml_working.specs.FollowingHeaders.{behind_family, blank_line, but_last, ends_empty, ends_filled, ends_in_newline, family, header_behind, header_ws, is_close, is_entry, is_entry_line, is_filled, is_header_line, is_no_comment, last_that, or_at_end, wants_blank}
+use Rattle.toml_working.specs.Manners.{ends_in_newline}
+use Rattle.toml_working.specs.FollowingHeaders.{behind_family, blank_line, but_last, ends_empty, ends_filled, family, header_behind, header_ws, is_close, is_entry, is_entry_line, is_filled, is_header_line, is_no_comment, last_that, or_at_end, wants_blank}
 use Rattle.toml_working.specs.Headers.{has_no_bytes, new_header, put_after, put_at_text_end}
 use Rattle.toml_working.specs.OpeningLines.{HasOutline, alone}
 use Rattle.toml_working.specs.Placing.{lines_before, lines_from}

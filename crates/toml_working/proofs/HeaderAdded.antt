@@ -14,7 +14,7 @@ use Rattle.toml_working.specs.declared.lines.Sought.TheVariants as sought
 use Rattle.toml_working.specs.declared.working.Position.{Position}
 use Rattle.toml_working.specs.declared.working.Tree.{Tree}
 use Rattle.toml_working.specs.AddingHeaders.{LaysOutHeader, TreeAddsHeader}
-use Rattle.toml_working.specs.Following.{TreeFollows, may_write_blank}
+use Rattle.toml_working.specs.Following.{TreeFollows}
 use Rattle.toml_working.specs.HeaderStanding.{ElementIn, blank_laid_out, header_laid_out}
 use Rattle.toml_working.specs.Headers.{ElementStands, new_header, put_plainly}
 use Rattle.toml_working.specs.Putting.{manner}
@@ -29,10 +29,10 @@ module _ (q p : Address) (element : Option Address) (brackets : Brackets) (steps
   text = text_of old.texts.source
 
   abbrev put_in : Layout → List Standing → List Standing
-  put_in layout ss = header_laid_out layout q p brackets (manner old) (may_write_blank old) ss
+  put_in layout ss = header_laid_out layout q p brackets (manner old) ss
 
   abbrev blank_in : Layout → List Standing → Bool
-  blank_in layout ss = blank_laid_out layout q p brackets (manner old) (may_write_blank old) ss
+  blank_in layout ss = blank_laid_out layout q p brackets (manner old) ss
 
   -- in a layout
   pub plain_adds : (now : Tree) (done : Bool) → old.texts.layout ≡ layouts.Plain

@@ -11,7 +11,7 @@ use Rattle.toml_layout.specs.declared.tree.Brackets.{Brackets}
 use Rattle.toml_working.specs.declared.lines.Line.{Line}
 use Rattle.toml_working.specs.declared.lines.Slot.{Slot}
 use Rattle.toml_working.specs.declared.working.Position.{Position}
-use Rattle.toml_working.specs.Headers.{ElementStands, before_next, has_no_bytes, header_outline, new_header, or_last, put_after, put_at_text_end}
+use Rattle.toml_working.specs.Headers.{ElementStands, before_next, has_no_bytes, header_outline, new_header, or_at_text_end, put_after, put_at_text_end}
 use Rattle.toml_working.specs.Looking.{BodyBegins}
 use Rattle.toml_working.specs.NextHeaders.{FindsPlace}
 use Rattle.toml_working.specs.OpeningLines.{HasOutline}
@@ -174,7 +174,7 @@ module _ (p : Address) (brackets : Brackets) (steps : List (String Global)) (sty
       let (kept, are, answer) = puts spells low (text_of texts.source) stands.kept in (
         record {
           kept = kept;
-          are = are ∙ sym (ap (or_last plain style ss) (ap (before_next e (plain style)) (sym stands.are) ∙ put (plain style)));
+          are = are ∙ sym (ap (or_at_text_end plain style ss) (ap (before_next e (plain style)) (sym stands.are) ∙ put (plain style)));
         },
         answer,
       )
@@ -187,7 +187,7 @@ module _ (p : Address) (brackets : Brackets) (steps : List (String Global)) (sty
       let (last, answer) = puts spells ss stands some in (
         record {
           kept = last.kept;
-          are = last.are ∙ sym (ap (or_last plain style ss) (ap (before_next e (plain style)) (sym stands.are) ∙ put (plain style)));
+          are = last.are ∙ sym (ap (or_at_text_end plain style ss) (ap (before_next e (plain style)) (sym stands.are) ∙ put (plain style)));
         },
         answer,
       )

@@ -15,7 +15,7 @@ use Rattle.toml_working.specs.declared.lines.Slot.{Slot}
 use Rattle.toml_working.specs.declared.lines.Sought.TheVariants as sought
 use Rattle.toml_working.specs.declared.working.Position.{Position}
 use Rattle.toml_working.specs.declared.working.Tree.{Tree}
-use Rattle.toml_working.specs.InValues.{IsParent}
+use Rattle.toml_working.specs.Parents.{IsParent}
 use Rattle.toml_working.specs.RemoveStanding.{is_pair, is_undotted_at, is_undotted_pair, is_value_at, leaves_parent, left_of_pair, makes, makes_beside, removed_one, remove_standing}
 use Rattle.toml_layout.specs.Holders.{parent_of}
 use Rattle.toml_working.specs.RemovingIn.{LeavesSlot, RemovesLines, TakesOutLine, TellsStays, base_of, stays_behind, stays_past, steps_or_zero, left_of_all}
@@ -202,7 +202,7 @@ undotted_here p front s back ahead after =
     none_there [] h = refl
     none_there (t ∷ ts) h = ap₂ (λ a b. a || b) (not_here t h.0 (is_undotted_pair p t) refl) (none_there ts h.1)
 
-parent_is : (q : Address) (last : Step) → parent_of (q ++ last ∷ []) ≡ q
+pub parent_is : (q : Address) (last : Step) → parent_of (q ++ last ∷ []) ≡ q
 parent_is q last =
     let long : length (q ++ last ∷ []) ≡ length q + 1 = length-append q (last ∷ []) in
     let less : length (q ++ last ∷ []) - 1 ≡ length q = omega (arith, long) in

@@ -8,8 +8,8 @@ use Rattle.toml_names.specs.model.Addresses.{Address}
 use Rattle.toml_text.specs.Source.{text_of}
 use Rattle.toml_layout.specs.declared.tree.Brackets.{Brackets}
 use Rattle.toml_working.specs.declared.working.Tree.{Tree}
-use Rattle.toml_working.specs.Following.{ArrayIsNotRoot, may_write_blank}
-use Rattle.toml_working.specs.HeaderStanding.{ElementIn, TakeHeader, blank_laid_out, blank_standing, header_laid_out, header_standing}
+use Rattle.toml_working.specs.Following.{ArrayIsNotRoot}
+use Rattle.toml_working.specs.HeaderStanding.{ElementIn, AreReadyForHeader, blank_laid_out, blank_standing, header_laid_out, header_standing}
 use Rattle.toml_working.specs.Headers.{innermost}
 use Rattle.toml_working.specs.Putting.{manner}
 use Rattle.toml_working.specs.PuttingHeaders.{AreSpellings}
@@ -28,14 +28,14 @@ pub record IsAsked (q p : Address) (element : Option Address) (steps : List (Str
 abbrev pub LaysOutHeader : Address → Option Address → Address → Brackets → List (String Global) → Read → Tree → Tree → Bool → Type 0
 LaysOutHeader q element p brackets steps read old now done = IsAsked q p element steps → (ss : List Standing)
     → Stands (text_of old.texts.source) read old.slots.items ss → ¬ (ss ≡ []) → ElementIn old.texts.layout q ss
-    → Stands (text_of old.texts.source) read now.slots.items (header_laid_out old.texts.layout q p brackets (manner old) (may_write_blank old) ss) × (done ≡ true)
-    × (now.has_written_blank ≡ (old.has_written_blank || blank_laid_out old.texts.layout q p brackets (manner old) (may_write_blank old) ss))
+    → Stands (text_of old.texts.source) read now.slots.items (header_laid_out old.texts.layout q p brackets (manner old) ss) × (done ≡ true)
+    × (now.has_written_blank ≡ (old.has_written_blank || blank_laid_out old.texts.layout q p brackets (manner old) ss))
 
 -- Of lines as the table rules have them: it is put in, and refused just where a line's value stands right above it, or holds what does. It is
 -- remembered whether a blank line is written before it.
 abbrev pub TreeAddsHeader : Address → Option Address → Address → Brackets → List (String Global) → Read → Tree → Tree → Bool → Type 0
 TreeAddsHeader q element p brackets steps read old now done = IsAsked q p element steps → (ss : List Standing)
-    → Stands (text_of old.texts.source) read old.slots.items ss → AreOrdered ss → TakeHeader old.texts.layout q ss
-    → Stands (text_of old.texts.source) read now.slots.items (header_standing q p brackets (manner old) (may_write_blank old) ss)
+    → Stands (text_of old.texts.source) read old.slots.items ss → AreOrdered ss → AreReadyForHeader old.texts.layout q ss
+    → Stands (text_of old.texts.source) read now.slots.items (header_standing q p brackets (manner old) ss)
     × (done ≡ not (list_any (holds q) ss))
-    × (now.has_written_blank ≡ (old.has_written_blank || blank_standing q p brackets (manner old) (may_write_blank old) ss))
+    × (now.has_written_blank ≡ (old.has_written_blank || blank_standing q p brackets (manner old) ss))

@@ -14,7 +14,8 @@ use Rattle.toml_working.specs.declared.headers.Landmark.TheVariants as marks
 use Rattle.toml_working.specs.declared.lines.Slot.{Slot}
 use Rattle.toml_working.specs.declared.working.Position.{Position}
 use Rattle.toml_working.specs.declared.working.Tree.{Tree}
-use Rattle.toml_working.specs.FollowingHeaders.{behind_family, behind_section, blank_line, ends_empty, ends_filled, ends_in_newline, family, header_behind}
+use Rattle.toml_working.specs.Manners.{ends_in_newline}
+use Rattle.toml_working.specs.FollowingHeaders.{behind_family, behind_section, blank_line, ends_empty, ends_filled, family, header_behind}
 use Rattle.toml_working.specs.FollowingHeaders.{header_ws, is_close, wants_blank, put_at_end, put_following, writes_blank, has_parts, is_filled, is_header_line, is_no_comment}
 use Rattle.toml_working.specs.Headers.{element_of, put_at_text_end}
 use Rattle.toml_working.specs.InsertStanding.{is_bare}

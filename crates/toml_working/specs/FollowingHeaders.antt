@@ -1,7 +1,8 @@
--- Where a header line goes in layout `Follow`, and how it begins.
+-- Where a header line goes in layout `Follow`, and how it begins. `may_blank` tells whether a blank line may be written.
 use Rattle.std.specs.Prelude.{◌==◌, ◌&&◌, ℕ, Bool, true, false, not, List, [], ◌∷◌, ◌++◌, Option, Some, None, is_some, option_map, if◌then◌else◌}
 use Rattle.std.specs.List.{list_any}
 use Rattle.toml_names.specs.model.Addresses.{Address}
+use Rattle.toml_layout.specs.Holders.{parent_of}
 use Rattle.toml_layout.specs.Outlines.{Nothing}
 use Rattle.toml_layout.specs.declared.tree.Brackets.{Brackets}
 use Rattle.toml_working.specs.Headers.{element_of, has_no_bytes, new_header, put_at_text_end}
@@ -65,27 +66,21 @@ behind_section new front (s ∷ ss) = option_map (λ r. s ∷ r) (
     else if list_any is_filled ss then Some (new (front ++ s ∷ []) ∷ ss) else None)
 
 -- lines with a new one so put in behind the section of the last line at the address or below it
-abbrev pub behind_last : Address → (List Standing → Standing) → List Standing → List Standing → Option (List Standing)
-behind_last r new front [] = None
-behind_last r new front (s ∷ ss) =
-    if list_any (is_below r) ss then option_map (λ t. s ∷ t) (behind_last r new (front ++ s ∷ []) ss)
+abbrev pub behind_below : Address → (List Standing → Standing) → List Standing → List Standing → Option (List Standing)
+behind_below r new front [] = None
+behind_below r new front (s ∷ ss) =
+    if list_any (is_below r) ss then option_map (λ t. s ∷ t) (behind_below r new (front ++ s ∷ []) ss)
     else if is_below r s then behind_section new front (s ∷ ss) else None
 
--- the address right above another; that of the root is the root
-abbrev pub right_above : Address → Address
-right_above [] = []
-right_above (s ∷ []) = []
-right_above (s ∷ t ∷ steps) = s ∷ right_above (t ∷ steps)
-
--- the family of what is to stand at `p`, right below `q`: of a table `q`, its parent; of an element its array `q`, or where no line stands there
--- or below it what the array stands in
+-- the family of what is to stand at `p`, right below `q`: of a new table `q`; of a new element its array `q`, or where no line stands there or
+-- below it what the array stands in
 abbrev pub family : Address → Address → List Standing → Address
-family q p ss = if is_some (element_of p) && not (list_any (is_below q) ss) then right_above q else q
+family q p ss = if is_some (element_of p) && not (list_any (is_below q) ss) then parent_of q else q
 
 -- behind the last section of the family; the root is no family
 abbrev pub behind_family : Address → (List Standing → Standing) → List Standing → Option (List Standing)
 behind_family [] new ss = None
-behind_family (s ∷ r) new ss = behind_last (s ∷ r) new [] ss
+behind_family (s ∷ r) new ss = behind_below (s ∷ r) new [] ss
 
 -- ---- at the end
 
@@ -135,32 +130,26 @@ wants_blank ss = ends_empty ss && (ends_filled (but_last ss) && not (is_close []
 abbrev pub blank_line : List ℕ → Standing
 blank_line newline = record { address = None; base = None; outline = alone Nothing newline }
 
--- whether a text ends in a newline
-abbrev pub ends_in_newline : List ℕ → Bool
-ends_in_newline [] = false
-ends_in_newline (b ∷ []) = b == 0x0A
-ends_in_newline (b ∷ c ∷ bs) = ends_in_newline (c ∷ bs)
-
--- a header line at the end of the text, behind a blank one where there may be one and one parts it from what stands above
+-- a header line at the end of the text, behind a blank line where one may be written and is due
 abbrev pub put_at_end : Address → Brackets → List ℕ → Bool → List Standing → List Standing
-put_at_end p brackets style may ss =
-    put_at_text_end (new_header p brackets (header_ws p ss)) style (if may && wants_blank ss then put_at_text_end blank_line style ss else ss)
+put_at_end p brackets style may_blank ss =
+    put_at_text_end (new_header p brackets (header_ws p ss)) style (if may_blank && wants_blank ss then put_at_text_end blank_line style ss else ss)
 
 -- these lines, if there are any, else those with the header line at the end
 abbrev pub or_at_end : Address → Brackets → List ℕ → Bool → List Standing → Option (List Standing) → List Standing
-or_at_end p brackets style may ss None = put_at_end p brackets style may ss
-or_at_end p brackets style may ss (Some put) = put
+or_at_end p brackets style may_blank ss None = put_at_end p brackets style may_blank ss
+or_at_end p brackets style may_blank ss (Some put) = put
 
 -- lines with the header line of what is to stand at `p`, right below `q`, behind the last section of its family, where more than blank lines
 -- follows there
 abbrev pub beside_family : Address → Address → Brackets → List ℕ → List Standing → Option (List Standing)
 beside_family q p brackets style ss = behind_family (family q p ss) (λ front. header_behind p brackets front style) ss
 
--- with it there, else at the end; `may` tells whether a blank line may be written
+-- with it there, else at the end
 abbrev pub put_following : Address → Address → Brackets → List ℕ → Bool → List Standing → List Standing
-put_following q p brackets style may ss =
-    or_at_end p brackets style may ss (beside_family q p brackets style ss)
+put_following q p brackets style may_blank ss =
+    or_at_end p brackets style may_blank ss (beside_family q p brackets style ss)
 
 -- whether a blank line is written before it
 abbrev pub writes_blank : Address → Address → Brackets → List ℕ → Bool → List Standing → Bool
-writes_blank q p brackets style may ss = not (is_some (beside_family q p brackets style ss)) && (may && wants_blank ss)
+writes_blank q p brackets style may_blank ss = not (is_some (beside_family q p brackets style ss)) && (may_blank && wants_blank ss)

@@ -10,31 +10,31 @@ use Rattle.toml_working.specs.Headers.{ElementStands, innermost, new_header, put
 use Rattle.toml_working.specs.Manners.{Manner}
 use Rattle.toml_working.specs.Standing.{Standing, holds}
 
--- the header line of what is to stand at `p`, right below `q`, in a layout; `may` tells whether a blank line may be written
-abbrev pub header_laid_out : Layout → Address → Address → Brackets → Manner → Bool → List Standing → List Standing
-header_laid_out layouts.Plain q p brackets manner may ss = put_plainly (innermost q) (new_header p brackets []) manner.newline ss
-header_laid_out layouts.Follow q p brackets manner may ss = put_following q p brackets manner.newline may ss
+-- the header line of what is to stand at `p`, right below `q`, put in among lines by a layout
+abbrev pub header_laid_out : Layout → Address → Address → Brackets → Manner → List Standing → List Standing
+header_laid_out layouts.Plain q p brackets manner ss = put_plainly (innermost q) (new_header p brackets []) manner.newline ss
+header_laid_out layouts.Follow q p brackets manner ss = put_following q p brackets manner.newline manner.may_blank ss
 
--- it is put in where no line's value stands at `q` or holds what does
-abbrev pub header_standing : Address → Address → Brackets → Manner → Bool → List Standing → List Standing
-header_standing q p brackets manner may ss = if list_any (holds q) ss then ss else header_laid_out manner.layout q p brackets manner may ss
+-- it is put in where what stands at `q` is no line's value, and lies in none
+abbrev pub header_standing : Address → Address → Brackets → Manner → List Standing → List Standing
+header_standing q p brackets manner ss = if list_any (holds q) ss then ss else header_laid_out manner.layout q p brackets manner ss
 
 -- whether a blank line is written before it
-abbrev pub blank_laid_out : Layout → Address → Address → Brackets → Manner → Bool → List Standing → Bool
-blank_laid_out layouts.Plain q p brackets manner may ss = false
-blank_laid_out layouts.Follow q p brackets manner may ss = writes_blank q p brackets manner.newline may ss
+abbrev pub blank_laid_out : Layout → Address → Address → Brackets → Manner → List Standing → Bool
+blank_laid_out layouts.Plain q p brackets manner ss = false
+blank_laid_out layouts.Follow q p brackets manner ss = writes_blank q p brackets manner.newline manner.may_blank ss
 
-abbrev pub blank_standing : Address → Address → Brackets → Manner → Bool → List Standing → Bool
-blank_standing q p brackets manner may ss = not (list_any (holds q) ss) && blank_laid_out manner.layout q p brackets manner may ss
+abbrev pub blank_standing : Address → Address → Brackets → Manner → List Standing → Bool
+blank_standing q p brackets manner ss = not (list_any (holds q) ss) && blank_laid_out manner.layout q p brackets manner ss
 
 -- in layout `Plain` the header lines of the innermost element there or above stand in turn
 abbrev pub ElementIn : Layout → Address → List Standing → Type 0
 ElementIn layouts.Plain q ss = ElementStands (innermost q) ss
 ElementIn layouts.Follow q ss = Unit {0}
 
--- what documents should have under the table rules, and no law says yet: there are lines, the root is no line's value, and the header lines of
--- an element stand in turn
-pub record TakeHeader (layout : Layout) (q : Address) (ss : List Standing) : Type 0 where
+-- what lines need before a header line is put in, and documents have by the table rules: there are lines, the root is no line's value, and the
+-- header lines of an element stand in turn
+pub record AreReadyForHeader (layout : Layout) (q : Address) (ss : List Standing) : Type 0 where
   pub some : ¬ (ss ≡ [])
   pub root : list_any (holds []) ss ≡ false
   pub element : ElementIn layout q ss

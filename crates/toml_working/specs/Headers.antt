@@ -90,15 +90,15 @@ put_at_text_end new style (s ∷ []) = if has_no_bytes s.outline then new style 
 put_at_text_end new style (s ∷ t ∷ ss) = s ∷ put_at_text_end new style (t ∷ ss)
 
 -- these lines, if there are any, else those with the new one at the end
-abbrev pub or_last : (List ℕ → Standing) → List ℕ → List Standing → Option (List Standing) → List Standing
-or_last new style ss None = put_at_text_end new style ss
-or_last new style ss (Some put) = put
+abbrev pub or_at_text_end : (List ℕ → Standing) → List ℕ → List Standing → Option (List Standing) → List Standing
+or_at_text_end new style ss None = put_at_text_end new style ss
+or_at_text_end new style ss (Some put) = put
 
 -- Where `Plain` puts a new line: before the next header line behind the last one of the element, if there are such; else, or in no element, at
 -- the end of the text.
 abbrev pub put_plainly : Option Address → (List ℕ → Standing) → List ℕ → List Standing → List Standing
 put_plainly None new style ss = put_at_text_end new style ss
-put_plainly (Some e) new style ss = or_last new style ss (before_next e (new style) ss)
+put_plainly (Some e) new style ss = or_at_text_end new style ss (before_next e (new style) ss)
 
 -- ---- what documents have under the table rules
 

@@ -26,13 +26,13 @@ key_named [] = record { first = fresh []; rest = [] }
 key_named (name ∷ names) = record { first = fresh (spelled name); rest = map dotted_name names }
 
 -- the header of what stands at the address
-abbrev pub header_of : Address → Header
-header_of p = record { before = fresh []; key = key_named (names_of p); after = fresh [] }
+abbrev pub fresh_header : Address → Header
+fresh_header p = record { before = fresh []; key = key_named (names_of p); after = fresh [] }
 
--- with this whitespace before it
+-- the expression of a header line: the header behind this whitespace
 abbrev pub header_expr : Brackets → Address → List ℕ → Expr
-header_expr One p ws = TableLine (fresh ws) (header_of p) no_blank
-header_expr Two p ws = ArrayTableLine (fresh ws) (header_of p) no_blank
+header_expr One p ws = TableLine (fresh ws) (fresh_header p) no_blank
+header_expr Two p ws = ArrayTableLine (fresh ws) (fresh_header p) no_blank
 
 -- the line with it, and with this newline
 abbrev pub header_line : Brackets → Address → List ℕ → List ℕ → Line
@@ -58,7 +58,7 @@ line_before_header new [] = None
 line_before_header new ((l, s) ∷ ls) =
     if is_header s.base s.address then Some (new ∷ l ∷ map (λ (x : Shown). x.0) ls) else option_map (λ r. l ∷ r) (line_before_header new ls)
 
--- with it before the first header line behind the last one that stands at the element or below it, if there is one
+-- lines with a new one before the first header line behind the last one that stands at the element or below it, if there is one
 abbrev pub line_before_next : Address → Line → List Shown → Option (List Line)
 line_before_next e new [] = None
 line_before_next e new ((l, s) ∷ ls) = option_map (λ r. l ∷ r) (
@@ -67,14 +67,14 @@ line_before_next e new ((l, s) ∷ ls) = option_map (λ r. l ∷ r) (
 
 -- A line, by its newline, and a new one behind it. What has no newline is a former last line: it gets that of new lines, and the new one has
 -- none.
-abbrev pub line_behind_last : (List ℕ → Line) → List ℕ → Line → List ℕ → List Line
-line_behind_last new style l [] = record { expr = l.expr; newline = fresh style } ∷ new [] ∷ []
-line_behind_last new style l (b ∷ bs) = l ∷ new style ∷ []
+abbrev pub line_put_after : (List ℕ → Line) → List ℕ → Line → List ℕ → List Line
+line_put_after new style l [] = record { expr = l.expr; newline = fresh style } ∷ new [] ∷ []
+line_put_after new style l (b ∷ bs) = l ∷ new style ∷ []
 
 -- a new line at the end of the text: before the last line where that has no bytes, else behind it
 abbrev pub line_at_end : (List ℕ → Line) → List ℕ → List Line → List Line
 line_at_end new style [] = []
-line_at_end new style (l ∷ []) = if has_no_bytes (line_outline l) then new style ∷ l ∷ [] else line_behind_last new style l l.newline.text
+line_at_end new style (l ∷ []) = if has_no_bytes (line_outline l) then new style ∷ l ∷ [] else line_put_after new style l l.newline.text
 line_at_end new style (l ∷ m ∷ ls) = l ∷ line_at_end new style (m ∷ ls)
 
 -- these lines, if there are any, else those with the new one at the end
@@ -88,5 +88,5 @@ line_put_plainly None new style lines = line_at_end new style lines
 line_put_plainly (Some e) new style lines = or_line_at_end new style lines (line_before_next e (new style) (shown lines))
 
 -- the header line of what is to stand at `p`, right below `q`, put in among lines by layout `Plain`
-abbrev pub header_lines : Address → Brackets → Address → List ℕ → List Line → List Line
-header_lines q brackets p style lines = line_put_plainly (innermost q) (header_line brackets p []) style lines
+abbrev pub with_header_plainly : Address → Brackets → Address → List ℕ → List Line → List Line
+with_header_plainly q brackets p style lines = line_put_plainly (innermost q) (header_line brackets p []) style lines

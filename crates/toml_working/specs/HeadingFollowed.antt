@@ -1,4 +1,5 @@
--- `section` and `element` in layout `Follow`: where the header line of a new table, or of a new element of an array of tables, goes among lines.
+-- `section` and `element` in layout `Follow`: where the header line of a new table, or of a new element of an array of tables, goes among lines. `may_blank`
+-- tells whether a blank line may be written.
 use Rattle.std.specs.Prelude.{ℕ, Bool, ◌&&◌, List, [], ◌∷◌, ◌++◌, map, Option, Some, None, option_map, if◌then◌else◌}
 use Rattle.std.specs.List.{list_any}
 use Rattle.toml_tree.specs.Bare.{fresh}
@@ -45,18 +46,18 @@ blank_at_end style [] = []
 blank_at_end style (l ∷ []) = record { expr = l.expr; newline = fresh style } ∷ empty_line ∷ []
 blank_at_end style (l ∷ m ∷ ls) = l ∷ blank_at_end style (m ∷ ls)
 
--- a header line at the end of the text, behind a blank one where there may be one and one parts it from what stands above
+-- a header line at the end of the text, behind a blank line where one may be written and is due
 abbrev pub header_at_end : Address → Brackets → List ℕ → Bool → List Line → List Line
-header_at_end p brackets style may lines =
-    line_at_end (header_line brackets p (header_ws p (standing lines))) style (if may && wants_blank (standing lines) then blank_at_end style lines else lines)
+header_at_end p brackets style may_blank lines =
+    line_at_end (header_line brackets p (header_ws p (standing lines))) style (if may_blank && wants_blank (standing lines) then blank_at_end style lines else lines)
 
 -- these lines, if there are any, else those with the header line at the end
 abbrev pub or_header_at_end : Address → Brackets → List ℕ → Bool → List Line → Option (List Line) → List Line
-or_header_at_end p brackets style may lines None = header_at_end p brackets style may lines
-or_header_at_end p brackets style may lines (Some put) = put
+or_header_at_end p brackets style may_blank lines None = header_at_end p brackets style may_blank lines
+or_header_at_end p brackets style may_blank lines (Some put) = put
 
 -- the header line of what is to stand at `p`, right below `q`, put in among lines by layout `Follow`: behind the last section of its family, where
--- more than blank lines follows there, else at the end; `may` tells whether a blank line may be written
-abbrev pub header_followed : Address → Brackets → Address → List ℕ → Bool → List Line → List Line
-header_followed q brackets p style may lines =
-    or_header_at_end p brackets style may lines (line_behind_family (family q p (standing lines)) (header_line_behind p brackets style) (shown lines))
+-- more than blank lines follows there, else at the end
+abbrev pub with_header_following : Address → Brackets → Address → List ℕ → Bool → List Line → List Line
+with_header_following q brackets p style may_blank lines =
+    or_header_at_end p brackets style may_blank lines (line_behind_family (family q p (standing lines)) (header_line_behind p brackets style) (shown lines))

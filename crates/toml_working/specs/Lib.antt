@@ -1,6 +1,6 @@
 pub mod Tidy
 pub mod Together
-pub mod InValues
+pub mod Parents
 -- words of the code's own contracts
 pub mod Reading
 -- how new text is written
@@ -42,4 +42,4 @@ pub mod Removing
 pub mod Heading
 pub mod HeadingFollowed
 pub mod Renaming
-pub mod Written
+pub mod Premises

@@ -12,7 +12,7 @@ use Rattle.toml_working.specs.declared.lines.Line.{Line}
 use Rattle.toml_working.specs.declared.lines.Slot.{Slot}
 use Rattle.toml_working.specs.declared.working.Position.{Position}
 use Rattle.toml_working.specs.declared.working.Tree.{Tree}
-use Rattle.toml_working.specs.InValues.{IsParent}
+use Rattle.toml_working.specs.Parents.{IsParent}
 use Rattle.toml_working.specs.RemoveStanding.{is_pair, left_of_pair, makes, makes_beside, remove_standing}
 use Rattle.toml_working.specs.Seeing.{line_at, read_by}
 use Rattle.toml_working.specs.Standing.{Standing, Read, AreOrdered, is_below, line_standing, slot_standing, slots_standing}

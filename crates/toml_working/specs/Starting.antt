@@ -23,7 +23,7 @@ use Rattle.toml_layout.specs.OpenOutlines.{leaf_text}
 use Rattle.toml_working.specs.Reading.{fact_of}
 use Rattle.toml_working.specs.Standing.{Read, standing}
 use Rattle.toml_working.specs.Stands.{Stands}
-use Rattle.toml_working.specs.Written.{style_of}
+use Rattle.toml_working.specs.Manners.{style_of}
 
 -- the document as the working tree looks at it, by its units and its lines
 abbrev pub read_of : Before → Read

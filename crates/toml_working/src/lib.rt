@@ -33,5 +33,5 @@ pub use pieces::Pieces;
 pub use placing::Guesses;
 pub use reading::{LineFacts, ReadDocument, let_go, read_document};
 pub use removing::parent_of;
-pub use sections::{Above, NewHeader, innermost_element, is_element_in_value, is_right_in_value};
+pub use sections::{Above, NewHeader, innermost_element};
 pub use working::{Before, Tree};

@@ -3,7 +3,7 @@ ghost use Rattle.std.specs.Prelude.{◌≡◌, ◌∷◌, [], IfOk, OnOk};
 ghost use Rattle.std.specs.List.{list_any};
 ghost use Rattle.toml_layout.specs.KnownLines.{lines_known};
 ghost use Rattle.toml_working.specs.HeldLines.{TakesFromValue};
-ghost use Rattle.toml_working.specs.InValues.{IsParent};
+ghost use Rattle.toml_working.specs.Parents.{IsParent};
 ghost use Rattle.toml_working.specs.RemoveStanding.{makes_apart};
 ghost use Rattle.toml_working.specs.RemovingIn.{LeavesBehind, LeavesLines, LeavesSlot, LeavesSlots, RemovesLines, SlotTellsMaker, TakesOutLine, TellsMaker, TellsStays, lines_of};
 ghost use Rattle.toml_working.specs.Seeing.{IsSoughtAt};

@@ -1,13 +1,9 @@
 //! `section` and `element`: a header line of a new table, or of a new element of an array of tables.
 ghost use Rattle.std.specs.Prelude.{◌≡◌, IfOk, IsTrue, List, OnOk, false, map, string_bytes, true};
-ghost use Rattle.toml_working.specs.InValues.{IsElementInValue, IsInValue, IsRightInValue};
-ghost use Rattle.toml_tree.specs.Tree.{Line as Lined};
-ghost use Rattle.toml_names.specs.reader.LineNames.{Stand, StandFor};
 ghost use Rattle.toml_text.specs.Source.{text_of};
 ghost use Rattle.toml_layout.specs.NewKeys.{HasParts};
 ghost use Rattle.toml_layout.specs.OpenOutlines.{leaf_text};
 ghost use Rattle.toml_working.specs.Headers.{innermost};
-ghost use Rattle.toml_working.specs.InValues.{places_of};
 ghost use Rattle.toml_working.specs.NextHeaders.{FindsNext, FindsPlace, WalksPast, WalksSlot};
 ghost use Rattle.toml_working.specs.PuttingHeaders.{AddsPlainly, FindsEnd, HasNoBytesAt, IsHeaderOf, PutsHeader, PutsLast, name_texts, up_to};
 ghost use Rattle.toml_working.specs.AddingHeaders.{LaysOutHeader, TreeAddsHeader};
@@ -16,11 +12,10 @@ ghost use Rattle.toml_working.specs.Stands.{KeepsRest, KeepsTexts};
 ghost use Rattle.toml_working.specs.declared.sections.Walk.TheVariants as walks;
 
 use crate::lines::{Line, Seen, Slot};
-use crate::removing::parent_of;
 use crate::working::{Before, Position, Tree};
 use std::alloc::{AllocError, Global};
 use toml_layout::{Brackets, Expr, Header, Key, Layout, Leaf};
-use toml_names::{Address, LineNames, Place, Step};
+use toml_names::{Address, Place, Step};
 use toml_units::Unit;
 
 /// A header line that is to be put in.
@@ -327,40 +322,4 @@ fn steps_to_index(steps: &[Step]) -> usize
         }
     }
     count
-}
-
-/// Whether what stands right above the address is the value of a line of the document, or stands in one.
-pub fn is_right_in_value(alloc: Global, names: &LineNames, at: &Address) -> Result<bool, AllocError>
-    requires { Stand names.now }
-    ensures { (lines : List Lined) → StandFor names.now lines → IfOk result (λ yes. IsTrue yes → IsRightInValue (places_of lines) at.now) }
-{
-    if at.steps().is_empty() {
-        return Ok(false);
-    }
-    let above = parent_of(alloc, at)?;
-    Ok(is_in_value(names.place(&above)))
-}
-
-/// Whether the array whose element the address is, or the table in which the array stands, is the value of a line of the
-/// document, or stands in one.
-pub fn is_element_in_value(
-    alloc: Global,
-    names: &LineNames,
-    at: &Address,
-) -> Result<bool, AllocError>
-    requires { Stand names.now }
-    ensures { (lines : List Lined) → StandFor names.now lines → IfOk result (λ yes. IsTrue yes → IsElementInValue (places_of lines) at.now) }
-{
-    if at.steps().is_empty() {
-        return Ok(false);
-    }
-    let array = parent_of(alloc, at)?;
-    Ok(is_in_value(names.place(&array)) || is_right_in_value(alloc, names, &array)?)
-}
-
-/// Whether it is the value of a line, or stands in one.
-fn is_in_value(place: Option<Place>) -> bool
-    ensures { IsTrue result → IsInValue place }
-{
-    matches!(place, Some(Place::KeyVal(_)) | Some(Place::Inside(_)))
 }

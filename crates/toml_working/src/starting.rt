@@ -5,7 +5,7 @@ ghost use Rattle.toml_tree.specs.Tree.{Line as Lined};
 ghost use Rattle.toml_layout.specs.OpenOutlines.{leaf_text};
 ghost use Rattle.toml_working.specs.Reading.{fact_of};
 ghost use Rattle.toml_working.specs.Starting.{StandForUnits, TakesLine};
-ghost use Rattle.toml_working.specs.Written.{style_of as newline_style};
+ghost use Rattle.toml_working.specs.Manners.{style_of as newline_style};
 
 use crate::lines::{Kept, Slot};
 use crate::reading::LineFacts;
