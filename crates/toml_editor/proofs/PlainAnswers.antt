@@ -27,12 +27,11 @@ use Rattle.toml_editor.specs.PlainAnswers.{FirstFaultIsAnswered, FirstSpreadIsAn
 use Rattle.toml_editor.specs.PlainTexts.{AfterPlain, IsPlainOrHeld, IsNoPlainList, IsPlainOn, IsNeitherPlainNorHeld, IsSpreadIn, NoneIsSpread, WritesPlain}
 use Rattle.toml_editor.specs.Steps.{AreWritten}
 use Rattle.toml_layout.specs.declared.layout.Layout.{Layout}
-use Rattle.toml_working.specs.Written.{manner_of}
 use Rattle.toml_editor.specs.declared.fault.EditorFault.{EditorFault}
 use Rattle.toml_editor.specs.declared.fault.EditorFault.TheVariants as faults
 use Rattle.toml_editor.proofs.written.WayComments.{le_or}
 use Rattle.toml_editor.proofs.written.Steps.{one_list_written, one_written}
-use Rattle.toml_working.specs.Manners.{Manner}
+use Rattle.toml_working.specs.Manners.{Manner, manner_of}
 use Rattle.toml_editor.specs.EditedLines.{manner_after}
 
 compare : (a b : ℕ) → (a < b) ⊎ (a ≡ b) ⊎ (b < a)

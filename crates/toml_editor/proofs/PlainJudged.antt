@@ -20,7 +20,7 @@ use Rattle.toml_editor.specs.CertifiedLists.{ArePlain}
 use Rattle.toml_editor.specs.PlainTexts.{IsNoPlainList, WritesPlain}
 use Rattle.toml_editor.specs.Steps.{AreWritten, IsGoodText}
 use Rattle.toml_layout.specs.declared.layout.Layout.{Layout}
-use Rattle.toml_working.specs.Written.{manner_of}
+use Rattle.toml_working.specs.Manners.{manner_of}
 use Rattle.toml_editor.proofs.SourceKept.{text_ends}
 use Rattle.toml_editor.proofs.written.Certify.{outer_partners, outer_partners_certify}
 use Rattle.toml_editor.proofs.written.Elsewhere.{style_is_newline}

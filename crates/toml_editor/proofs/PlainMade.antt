@@ -19,7 +19,7 @@ use Rattle.toml_editor.specs.CertifiedLists.{ArePlain}
 use Rattle.toml_editor.specs.LastTexts.{ChangesLines, IsInContainer, WritesLast, standing_text}
 use Rattle.toml_editor.specs.Exact.{FollowAll, HoldsLast, IsAt, MakesAll}
 use Rattle.toml_layout.specs.declared.layout.Layout.{Layout}
-use Rattle.toml_working.specs.Manners.{Manner}
+use Rattle.toml_working.specs.Manners.{Manner, manner_of}
 use Rattle.toml_working.specs.Putting.{manner}
 use Rattle.toml_editor.specs.PlainTexts.{WritesPlain}
 use Rattle.toml_working.specs.Standing.{Read, Standing, standing}
@@ -27,7 +27,6 @@ use Rattle.toml_working.specs.Stands.{Stands}
 use Rattle.toml_working.specs.Starting.{NoneIsGone}
 use Rattle.toml_editor.specs.Steps.{AreWritten}
 use Rattle.toml_working.specs.Writing.{WritesOut}
-use Rattle.toml_working.specs.Written.{manner_of}
 use Rattle.toml_editor.proofs.MakesExact.{lead_parted}
 use Rattle.toml_editor.proofs.WrittenOut.{lines_are_written}
 use Rattle.toml_editor.proofs.written.Elsewhere.{style_is_newline}

@@ -11,11 +11,10 @@ use Rattle.toml_layout.specs.declared.texts.Texts.{Texts}
 use Rattle.toml_layout.specs.declared.tree.Leaf.{Leaf}
 use Rattle.toml_working.specs.declared.working.Tree.{Tree}
 use Rattle.toml_layout.specs.OpenOutlines.{leaf_text}
-use Rattle.toml_working.specs.FollowingHeaders.{ends_in_newline}
-use Rattle.toml_working.specs.Manners.{Manner}
+use Rattle.toml_working.specs.Manners.{Manner, ends_in_newline, manner_of, style_of}
 use Rattle.toml_working.specs.Putting.{manner}
-use Rattle.toml_working.specs.Written.{manner_of, style_of}
 use Rattle.toml_editor.specs.Exact.{KeepsSource}
+use Rattle.toml_editor.specs.CarriedLists.{FirstBlankNeedsNewline}
 
 pub source_kept : (old new : Tree) → new.texts ≡ old.texts → new.style ≡ old.style → new.has_written_blank ≡ old.has_written_blank → KeepsSource old new
 source_kept old new texts style blank = record {
@@ -52,6 +51,9 @@ ends_on (a ∷ b ∷ c ∷ bs) = by (a == 0xEF && b == 0xBB && c == 0xBF) refl
 
 pub text_ends : (d : Doc) (text : List ℕ) → Spells d text → ends_in_newline text ≡ ends_in_newline (joined (lines_parts d.lines))
 text_ends d text spells = ends_on text ∙ ap ends_in_newline (sym spells.lines.text_is)
+
+pub first_blank_needs_newline : FirstBlankNeedsNewline
+first_blank_needs_newline layout d text spells may = text_ends d text spells ∙ may
 
 -- at first it is that of the lines that were read
 pub as_read : (layout : Layout) (texts : Texts) (tree : Tree) (d : Doc) → tree.texts ≡ texts → texts.layout ≡ layout → leaf_text tree.style ≡ style_of d.lines

@@ -13,7 +13,7 @@ use Rattle.toml_checker.specs.declared.verdict.Verdict.TheVariants.{Yes}
 use Rattle.toml_checker.specs.Demands.{Certified, IsVerdict}
 use Rattle.toml_checker.specs.Outer.{IsOuter}
 use Rattle.toml_checker.specs.Pairs.{IsFirst}
-use Rattle.toml_editor.specs.CarriedLists.{EndsAsTold}
+use Rattle.toml_editor.specs.CarriedLists.{BlankNeedsNewline}
 use Rattle.toml_editor.specs.CarriedUnits.{ArePartners}
 use Rattle.toml_editor.specs.Steps.{IsGoodText, IsPlain, AreWritten}
 use Rattle.toml_editor.specs.EditedLines.{IsWritten, manner_after}
@@ -68,6 +68,6 @@ pub record IsCertifiedText (profile : Profile) (before : List ℕ) (old now : Ki
 -- Law: a list of plain edits, each without a fault on the data so far, writes a text, and within the limit of a text that is certified.
 abbrev pub PlainListIsCertified : Type 0
 PlainListIsCertified = (cs : List Change) (profile : Profile) (manner : Manner) (before : List ℕ) (old now : Kinds) → IsNewline manner.newline → IsText before
-    → (good : IsGoodText profile before old) → EndsAsTold manner before
+    → (good : IsGoodText profile before old) → BlankNeedsNewline manner before
     → Lead profile cs old now → ArePlain profile cs manner before
     → (after : List ℕ) × AreWritten profile cs manner before after × IsCertifiedText profile before old now cs good after

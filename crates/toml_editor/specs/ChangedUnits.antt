@@ -16,7 +16,7 @@ use Rattle.toml_checker.specs.Protected.{standing}
 use Rattle.toml_editor.specs.Held.{HoldAt}
 use Rattle.toml_editor.specs.RenamedUnits.{IsCarried}
 use Rattle.toml_working.specs.Setting.{set_lines}
-use Rattle.toml_working.specs.Written.{HasValue}
+use Rattle.toml_working.specs.Premises.{HasValue}
 
 -- what may stand in a value
 abbrev pub is_inner : UnitKind → Bool

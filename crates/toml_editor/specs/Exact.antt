@@ -104,7 +104,7 @@ abbrev pub WritesBelow : Profile → Read → Address → List ℕ → List (Str
 WritesBelow profile read p text steps old new = IsText text → (v : Value) → IsValueIn profile v text → (q : Address) (last : Step) → p ≡ q ++ last ∷ []
     → TreePutsBelow q p steps (value_outline v) read old new
 
--- a header line for what stands at the address, the steps of which are spelled so: whether it is put in
+-- the header line of what is to stand at the address, the steps of which are spelled so: whether it is put in
 abbrev pub WritesHeader : Brackets → Read → Address → List (String Global) → Tree → Tree → Bool → Type 0
 WritesHeader brackets read p steps old new done = (q : Address) (last : Step) → p ≡ q ++ last ∷ []
     → TreeAddsHeader q (innermost q) p brackets steps read old new done
@@ -118,8 +118,7 @@ pub record WritesRename (read : Read) (p : Address) (to : List ℕ) (old new : T
 -- What an edit makes of the working tree, where no element is gone: a `set` puts the value in, if one stands there, and tells whether;
 -- an `insert` of a name at the root, or in a table that has a header, puts its line in, a `remove` takes out the line of a value, or makes it
 -- the empty table right above where that would go with it, a `rename` gives lines the new name, a `section` and an `element` put their header
--- line in. Where an array or an inline table in the value
--- of a line holds it, an `insert` and a `remove` change that.
+-- line in. Where an array or an inline table in the value of a line holds it, an `insert` and a `remove` change that.
 abbrev pub WritesEdit : Profile → Read → Change → Tree → Tree → Bool → Type 0
 WritesEdit profile read (set p text) old new done = NoneIsGone old.elements → KeepsRest old new × WritesSet profile read p text old new done
 WritesEdit profile read (insert p text) old new done = NoneIsGone old.elements

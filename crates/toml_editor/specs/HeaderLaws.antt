@@ -11,39 +11,40 @@ use Rattle.toml_edits.specs.Edits.{new_element, new_section}
 use Rattle.toml_edits.specs.Faults.{IsFault}
 use Rattle.toml_layout.specs.declared.layout.Layout.{Layout}
 use Rattle.toml_layout.specs.declared.tree.Brackets.TheVariants.{One, Two}
-use Rattle.toml_working.specs.HeaderStanding.{TakeHeader, header_laid_out}
+use Rattle.toml_working.specs.HeaderStanding.{AreReadyForHeader, header_laid_out}
 use Rattle.toml_working.specs.Manners.{Manner}
 use Rattle.toml_working.specs.Standing.{standing}
 use Rattle.toml_editor.specs.Blocks.{IsPut, element_block, named_plain, section_block}
-use Rattle.toml_editor.specs.EditedLines.{IsInNoValue, header_put_in}
+use Rattle.toml_working.specs.Premises.{IsInNoValue}
+use Rattle.toml_editor.specs.EditedLines.{with_header}
 
 -- Laws: the lines after a `section` without a fault, of a table that stands in no value, name what they named, and what the new header names;
 abbrev pub SectionNames : Type 0
 SectionNames = (profile : Profile) (q : Address) (name : List ℕ) (manner : Manner) (lines : List Line) (kinds : Kinds)
     → AreLines lines → KeepsRules (named lines) → IsDataOf (named lines) kinds → IsFault profile (new_section (child q name)) kinds None → IsInNoValue lines q
-    → IsPut (named_plain lines) (section_block (child q name)) (named_plain (header_put_in manner.layout q One (child q name) manner lines))
+    → IsPut (named_plain lines) (section_block (child q name)) (named_plain (with_header manner.layout q One (child q name) manner lines))
 
 -- so do those after an `element`, of an array that stands in no value.
 abbrev pub ElementNames : Type 0
 ElementNames = (profile : Profile) (q : Address) (i : ℕ) (manner : Manner) (lines : List Line) (kinds : Kinds)
     → AreLines lines → KeepsRules (named lines) → IsDataOf (named lines) kinds → IsFault profile (new_element (element q i)) kinds None → IsInNoValue lines q
-    → IsPut (named_plain lines) (element_block q i) (named_plain (header_put_in manner.layout q Two (element q i) manner lines))
+    → IsPut (named_plain lines) (element_block q i) (named_plain (with_header manner.layout q Two (element q i) manner lines))
 
 -- Laws: by what finds them the lines after such a `section` are what the working tree makes of the lines before,
-abbrev pub SectionStands : Type 0
-SectionStands = (profile : Profile) (q : Address) (name : List ℕ) (manner : Manner) (lines : List Line) (kinds : Kinds)
+abbrev pub SectionIsLaidOut : Type 0
+SectionIsLaidOut = (profile : Profile) (q : Address) (name : List ℕ) (manner : Manner) (lines : List Line) (kinds : Kinds)
     → AreLines lines → KeepsRules (named lines) → IsDataOf (named lines) kinds → IsFault profile (new_section (child q name)) kinds None → IsInNoValue lines q
-    → standing (header_put_in manner.layout q One (child q name) manner lines)
-    ≡ header_laid_out manner.layout q (child q name) One manner manner.may_blank (standing lines)
+    → standing (with_header manner.layout q One (child q name) manner lines)
+    ≡ header_laid_out manner.layout q (child q name) One manner (standing lines)
 
 -- and so are those after such an `element`.
-abbrev pub ElementStands : Type 0
-ElementStands = (profile : Profile) (q : Address) (i : ℕ) (manner : Manner) (lines : List Line) (kinds : Kinds)
+abbrev pub ElementIsLaidOut : Type 0
+ElementIsLaidOut = (profile : Profile) (q : Address) (i : ℕ) (manner : Manner) (lines : List Line) (kinds : Kinds)
     → AreLines lines → KeepsRules (named lines) → IsDataOf (named lines) kinds → IsFault profile (new_element (element q i)) kinds None → IsInNoValue lines q
-    → standing (header_put_in manner.layout q Two (element q i) manner lines)
-    ≡ header_laid_out manner.layout q (element q i) Two manner manner.may_blank (standing lines)
+    → standing (with_header manner.layout q Two (element q i) manner lines)
+    ≡ header_laid_out manner.layout q (element q i) Two manner (standing lines)
 
 -- Law: of each document the working tree takes a header line: there are lines, the root is no line's value, and the header lines of the
 -- innermost element stand in turn.
 abbrev pub HeaderIsTaken : Type 0
-HeaderIsTaken = (layout : Layout) (q : Address) (lines : List Line) → AreLines lines → KeepsRules (named lines) → TakeHeader layout q (standing lines)
+HeaderIsTaken = (layout : Layout) (q : Address) (lines : List Line) → AreLines lines → KeepsRules (named lines) → AreReadyForHeader layout q (standing lines)

@@ -16,7 +16,7 @@ use Rattle.toml_edits.specs.ValueTexts.{IsGoodValue}
 use Rattle.toml_editor.specs.Blocks.{IsPut, value_block, named_plain}
 use Rattle.toml_working.specs.Inserting.{new_line, line_put, insert_in}
 use Rattle.toml_working.specs.Manners.{Manner}
-use Rattle.toml_working.specs.Written.{HasSection}
+use Rattle.toml_working.specs.Premises.{HasSection}
 use Rattle.toml_layout.specs.declared.layout.Layout.TheVariants as layouts
 use Rattle.toml_layout.specs.Spacings.{Spacing, plain_spacing}
 

@@ -19,7 +19,7 @@ use Rattle.toml_layout.specs.Outlines.{lines_outlined}
 use Rattle.toml_layout.specs.TreeOutlines.{value_outline}
 use Rattle.toml_working.specs.HeldLines.{SetsEach, has_container_at}
 use Rattle.toml_working.specs.Standing.{AreOrdered, Standing, holds, standing}
-use Rattle.toml_working.specs.Written.{manner_of}
+use Rattle.toml_working.specs.Manners.{manner_of}
 use Rattle.toml_editor.specs.CertifiedLists.{ArePlain}
 use Rattle.toml_editor.specs.SpelledEdits.{AreSteps}
 use Rattle.toml_editor.specs.Steps.{AreWritten}

@@ -14,7 +14,7 @@ use Rattle.toml_editor.specs.Edited.{IsEditedWith, TellsWith}
 use Rattle.toml_editor.specs.PlainTexts.{IsSpreadIn}
 use Rattle.toml_editor.specs.Steps.{AreWritten}
 use Rattle.toml_layout.specs.declared.layout.Layout.{Layout}
-use Rattle.toml_working.specs.Written.{manner_of}
+use Rattle.toml_working.specs.Manners.{manner_of}
 use Rattle.toml_editor.specs.declared.fault.EditorFault.{EditorFault}
 use Rattle.toml_editor.specs.declared.fault.EditorFault.TheVariants.{Edit, Spread, TooLong, NoMemory}
 

@@ -13,11 +13,11 @@ use Rattle.toml_edits.specs.Edits.{Change, insert, new_element, new_section, rem
 use Rattle.toml_edits.specs.Faults.{IsFault}
 use Rattle.toml_edits.specs.Lists.{Lead}
 use Rattle.toml_editor.specs.CertifiedLists.{ArePlain}
-use Rattle.toml_editor.specs.EditedLines.{IsInNoValue}
 use Rattle.toml_editor.specs.LastTexts.{HasContainerAt}
 use Rattle.toml_editor.specs.Steps.{AreWritten, IsPlain}
 use Rattle.toml_layout.specs.declared.layout.Layout.{Layout}
-use Rattle.toml_working.specs.Written.{HasValue, manner_of}
+use Rattle.toml_working.specs.Manners.{manner_of}
+use Rattle.toml_working.specs.Premises.{HasValue, IsInNoValue}
 
 -- where each edit is plain on the text written so far, the text is the one that they write of the first
 abbrev pub WritesPlain : Layout → Profile → List ℕ → List Change → List ℕ → Type 0

@@ -18,7 +18,7 @@ use Rattle.toml_working.specs.Removing.{empty_table, left_of_line, remove_lines}
 use Rattle.toml_working.specs.RemoveStanding.{leaves_parent}
 use Rattle.toml_layout.specs.Holders.{parent_of}
 use Rattle.toml_working.specs.Standing.{standing}
-use Rattle.toml_working.specs.Written.{HasLine}
+use Rattle.toml_working.specs.Premises.{HasLine}
 
 -- a line has the value there, and the table right above that stays without the line, or it does not
 abbrev pub LeavesTable : List Line → Address → Type 0

@@ -16,7 +16,7 @@ use Rattle.toml_edits.specs.After.{IsAfter}
 use Rattle.toml_edits.specs.Edits.{set}
 use Rattle.toml_edits.specs.ValueTexts.{IsGoodValue}
 use Rattle.toml_working.specs.Setting.{set_within, set_value, set_lines}
-use Rattle.toml_working.specs.Written.{HasValue}
+use Rattle.toml_working.specs.Premises.{HasValue}
 
 -- the thing at the address is the new value, with what is in it; what was below the address is not named
 abbrev pub swapped_one : Address → Value → Named → List Named

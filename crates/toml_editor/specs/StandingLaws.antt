@@ -25,7 +25,7 @@ use Rattle.toml_working.specs.Seeing.{AreHeaded, is_sought_line}
 use Rattle.toml_working.specs.Standing.{AreOrdered, Standing, standing, set_standing, has}
 use Rattle.toml_layout.specs.Outlines.{ValueOutline}
 use Rattle.toml_layout.specs.TreeOutlines.{value_outline}
-use Rattle.toml_working.specs.Written.{HasLine, HasSection, HasValue}
+use Rattle.toml_working.specs.Premises.{HasLine, HasSection, HasValue}
 
 -- Law: places do not count.
 abbrev pub PlacesDoNotStand : Type 0

@@ -15,9 +15,9 @@ use Rattle.toml_edits.specs.After.{IsAfter}
 use Rattle.toml_edits.specs.Edits.{Change, set, insert, rename, remove, new_section, new_element}
 use Rattle.toml_edits.specs.Faults.{IsFault}
 use Rattle.toml_edits.specs.Lists.{Lead}
-use Rattle.toml_working.specs.Written.{HasLine, HasSection, HasValue, style_of}
-use Rattle.toml_editor.specs.EditedLines.{IsInNoValue, IsWritten, manner_after}
-use Rattle.toml_working.specs.Manners.{Manner}
+use Rattle.toml_working.specs.Premises.{HasLine, HasSection, HasValue, IsInNoValue}
+use Rattle.toml_editor.specs.EditedLines.{IsWritten, manner_after}
+use Rattle.toml_working.specs.Manners.{Manner, style_of}
 
 -- a text that a good tree of the profile spells, and its data
 pub record IsGoodText (profile : Profile) (text : List ℕ) (kinds : Kinds) : Type 0 where
@@ -54,13 +54,13 @@ PlainStep = (profile : Profile) (c : Change) (manner : Manner) (before after : L
     → IsWritten profile c manner before after
     → (new : IsGoodText profile after now) × (new.tree.mark ≡ good.tree.mark)
 
--- the edits one after the other, each on the text written so far, and by what those before it leave
+-- the edits one after the other, each on the text written so far, in the manner that those before it leave
 abbrev pub AreWritten : Profile → List Change → Manner → List ℕ → List ℕ → Type 0
 AreWritten profile [] manner before after = before ≡ after
 AreWritten profile (c ∷ cs) manner before after = (between : List ℕ) × (first : IsWritten profile c manner before between)
     × AreWritten profile cs (manner_after c manner first.0.lines) between after
 
--- what is written by behind them
+-- the manner behind them
 abbrev pub last_manner : (profile : Profile) (cs : List Change) (manner : Manner) (before after : List ℕ) → AreWritten profile cs manner before after → Manner
 last_manner profile [] manner before after written = manner
 last_manner profile (c ∷ cs) manner before after (between, first, rest) = last_manner profile cs (manner_after c manner first.0.lines) between after rest

@@ -21,7 +21,7 @@ use Rattle.toml_working.specs.Removing.{empty_table, remove_lines}
 use Rattle.toml_layout.specs.Spacings.{Spacing, plain_spacing}
 use Rattle.toml_editor.specs.RemoveLaws.{LeavesTable, TakesTable}
 use Rattle.toml_layout.specs.Holders.{parent_of}
-use Rattle.toml_working.specs.Written.{HasSection}
+use Rattle.toml_working.specs.Premises.{HasSection}
 
 -- a keyval line: itself, what lies in its value, and its comment; to the table in which it stands lead so many steps
 abbrev pub pair_line_units : Piece → Address → ℕ → Value → Option Piece → List TextUnit

@@ -1,12 +1,12 @@
 //! Laws over the definitions of what plain edits write, in each layout: nothing is run.
 ghost use Rattle.toml_editor.specs.Bares.{SetBares, InsertBares, RemoveBares, RenameBares};
 ghost use Rattle.toml_editor.specs.CarriedUnits.{PlainIsCarried};
-ghost use Rattle.toml_editor.specs.CarriedLists.{ListIsCarried};
+ghost use Rattle.toml_editor.specs.CarriedLists.{FirstBlankNeedsNewline, ListIsCarried};
 ghost use Rattle.toml_editor.specs.CertifiedLists.{PartnersCertify, OuterAreNamed, OuterPartnersCertify, PlainListIsCertified};
 ghost use Rattle.toml_editor.specs.ChangedUnits.{SetUnits};
 ghost use Rattle.toml_editor.specs.PlainAnswers.{FirstFaultIsAnswered, FirstSpreadIsAnswered, LongIsAnswered, PlainIsAnswered};
 ghost use Rattle.toml_editor.specs.LastTexts.{OneChange};
-ghost use Rattle.toml_editor.specs.HeaderLaws.{ElementNames, ElementStands, HeaderIsTaken, SectionNames, SectionStands};
+ghost use Rattle.toml_editor.specs.HeaderLaws.{ElementNames, ElementIsLaidOut, HeaderIsTaken, SectionNames, SectionIsLaidOut};
 ghost use Rattle.toml_editor.specs.InsertLaws.{InsertNames, InsertRules, InsertShort, InsertData, InsertForms, InsertOfProfile, InsertKeepsLines};
 ghost use Rattle.toml_editor.specs.RemoveLaws.{EmptyNames, RemoveNames, RemoveGood, RemoveData, RemoveForms, RemoveOfProfile, RemoveKeepsLines};
 ghost use Rattle.toml_editor.specs.RenameLaws.{RenameNames, RenameGood, RenameData, RenameForms, RenameOfProfile, RenameKeepsLine};
@@ -49,8 +49,8 @@ pub fn inserts()
 pub fn headers()
     ensures section_names { SectionNames }
     ensures element_names { ElementNames }
-    ensures section_stands { SectionStands }
-    ensures element_stands { ElementStands }
+    ensures section_laid_out { SectionIsLaidOut }
+    ensures element_laid_out { ElementIsLaidOut }
     ensures taken { HeaderIsTaken }
 {}
 
@@ -90,11 +90,13 @@ pub fn profiles()
 {}
 
 /// Places aside, a `set` leaves what stands in a value as it was, if the address does not lie in the value, and the value
-/// itself, if it does not stand at the address either. The newline of new lines is LF or CR LF.
+/// itself, if it does not stand at the address either. The newline of new lines is LF or CR LF. At first a blank line may be
+/// written before a header line only where the text ends in a newline.
 pub fn kept()
     ensures within { SetWithin }
     ensures elsewhere { SetElsewhere }
     ensures style { StyleIsNewline }
+    ensures blank { FirstBlankNeedsNewline }
 {}
 
 /// Places aside, a line stays what it is and where it is, if a `set` is neither at its value nor in it; if a `rename` is at

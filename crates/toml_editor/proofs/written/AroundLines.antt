@@ -12,7 +12,7 @@ use Rattle.toml_names.specs.model.Addresses.{Address, IsAbove, same_address, chi
 use Rattle.toml_names.proofs.Proved.{named_has_line, below_is_of_its_line, line_values_stand_alone}
 use Rattle.toml_units.specs.Units.{element_unit, pair_unit, inside, elements, members, line_units, units_from, units, comment_units}
 use Rattle.toml_units.specs.declared.unit.UnitKind.TheVariants as kinds
-use Rattle.toml_working.specs.Written.{HasValue}
+use Rattle.toml_working.specs.Premises.{HasValue}
 use Rattle.toml_editor.proofs.Each.{each_append, each_back, each_weaker}
 use Rattle.toml_editor.proofs.written.Alike.{each_from, pairs_from}
 use Rattle.toml_editor.proofs.written.Around.{IsSole, sole}

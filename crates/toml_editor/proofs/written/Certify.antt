@@ -22,7 +22,7 @@ use Rattle.toml_editor.proofs.written.UnitsListed.{list_is_carried}
 use Rattle.toml_working.specs.Manners.{Manner}
 use Rattle.toml_editor.specs.EditedLines.{manner_after}
 use Rattle.toml_editor.proofs.Mannered.{keeps_newline}
-use Rattle.toml_editor.specs.CarriedLists.{EndsAsTold}
+use Rattle.toml_editor.specs.CarriedLists.{BlankNeedsNewline}
 
 -- the demands that are not of pairs
 module _ (cs : List Change) (profile : Profile) (manner : Manner) (before after : List ℕ) (old now : Kinds) (newline : IsNewline manner.newline)
@@ -80,7 +80,7 @@ list_is_written (c ∷ cs) profile manner before old now newline good (none, mid
 
 -- what they write is a good text, and has outer partners with the first one
 pub outer_partners : (cs : List Change) (profile : Profile) (manner : Manner) (before after : List ℕ) (old now : Kinds) → IsNewline manner.newline
-    → (good : IsGoodText profile before old) → EndsAsTold manner before → Lead profile cs old now → AreWritten profile cs manner before after
+    → (good : IsGoodText profile before old) → BlankNeedsNewline manner before → Lead profile cs old now → AreWritten profile cs manner before after
     → (new : IsGoodText profile after now) × (os : List (ℕ × ℕ)) × AreOuterPartners cs good.tree new.tree os
 outer_partners cs profile manner before after old now newline good told lead written =
     let new = (plain_steps profile cs manner before after old now newline good lead written).0 in

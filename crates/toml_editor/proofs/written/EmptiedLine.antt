@@ -16,7 +16,7 @@ use Rattle.toml_working.specs.Removing.{emptied_line, key_cut, lines_left}
 use Rattle.toml_working.specs.RemoveStanding.{is_undotted_pair, leaves_parent, makes_beside}
 use Rattle.toml_layout.specs.Holders.{parent_of}
 use Rattle.toml_working.specs.Standing.{Standing, line_stands, standing}
-use Rattle.toml_working.specs.Written.{HasLine}
+use Rattle.toml_working.specs.Premises.{HasLine}
 use Rattle.toml_editor.specs.RemoveLaws.{HasValueAt}
 use Rattle.toml_editor.proofs.written.BelowPlace.{standing_behind}
 use Rattle.toml_editor.proofs.written.Clear.{self}

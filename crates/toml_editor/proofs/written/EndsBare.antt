@@ -19,7 +19,7 @@ use Rattle.toml_scalar.specs.declared.strings.kind.StringKind.TheVariants.{Basic
 use Rattle.toml_tree.specs.Spells.{AreLines, IsBlank, IsCommentOrNone, IsExpr, IsValue, Part, array_header_parts, assign_parts, blank_parts, comment_parts, equals_parts, expr_parts, gap_parts, header_parts, items_parts, joined, key_parts, keyval_parts, line_parts, lines_parts, pairs_parts, piece, begin, symbol, value_parts}
 use Rattle.toml_tree.specs.Tree.{Piece, Blank, Assign, Value, Scalar, Array, Inline, Items, Close, Last, More, Pairs, ClosePairs, LastPair, MorePairs, Header, Expr, BlankLine, KeyValLine, TableLine, ArrayTableLine, Line}
 use Rattle.toml_tree.proofs.Proved.{parts_join}
-use Rattle.toml_working.specs.FollowingHeaders.{ends_in_newline}
+use Rattle.toml_working.specs.Manners.{ends_in_newline}
 
 -- the last byte is no newline, or there is none
 abbrev IsUnended : List ℕ → Type 0

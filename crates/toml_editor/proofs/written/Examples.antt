@@ -20,9 +20,8 @@ use Rattle.toml_working.specs.Lines.{array_of, inline_of}
 use Rattle.toml_working.specs.Removing.{remove_lines}
 use Rattle.toml_working.specs.Renaming.{rename_lines}
 use Rattle.toml_working.specs.Setting.{set_lines}
-use Rattle.toml_working.specs.Written.{manner_of, style_of}
 use Rattle.toml_layout.specs.declared.layout.Layout.TheVariants as layouts
-use Rattle.toml_working.specs.Manners.{Manner}
+use Rattle.toml_working.specs.Manners.{Manner, manner_of, style_of}
 
 -- ---- trees
 

@@ -26,7 +26,7 @@ use Rattle.toml_working.specs.Stands.{KeepsRest, SetsLines, Stands}
 use Rattle.toml_working.specs.Starting.{NoneIsGone}
 use Rattle.toml_editor.specs.Steps.{IsGoodText, IsPlain}
 use Rattle.toml_layout.specs.TreeOutlines.{value_outline}
-use Rattle.toml_working.specs.Written.{HasLine, HasValue}
+use Rattle.toml_working.specs.Premises.{HasLine, HasValue}
 use Rattle.toml_editor.specs.EditedLines.{AreEdited, IsWritten, manner_after}
 use Rattle.toml_editor.proofs.Mannered.{keeps_newline}
 use Rattle.toml_editor.proofs.SourceKept.{source_kept}

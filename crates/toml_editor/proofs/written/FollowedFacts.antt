@@ -14,12 +14,13 @@ use Rattle.toml_names.specs.model.Data.{IsDataOf, Kinds}
 use Rattle.toml_names.specs.reader.Names.{own_address}
 use Rattle.toml_names.proofs.Proved.{above_is_above}
 use Rattle.toml_layout.specs.declared.tree.Brackets.TheVariants.{One, Two}
-use Rattle.toml_working.specs.FollowingHeaders.{behind_family, family, header_behind, or_at_end, put_following, right_above, wants_blank, writes_blank}
+use Rattle.toml_layout.specs.Holders.{parent_of}
+use Rattle.toml_working.specs.FollowingHeaders.{behind_family, family, header_behind, or_at_end, put_following, wants_blank, writes_blank}
 use Rattle.toml_working.specs.Heading.{header_expr, shown}
 use Rattle.toml_working.specs.Headers.{element_of}
 use Rattle.toml_working.specs.RemoveStanding.{makes}
 use Rattle.toml_working.specs.Standing.{Standing, holds, is_below, lies_below, standing, standing_from}
-use Rattle.toml_working.specs.HeadingFollowed.{header_followed, header_line_behind, line_behind_family, or_header_at_end}
+use Rattle.toml_working.specs.HeadingFollowed.{with_header_following, header_line_behind, line_behind_family, or_header_at_end}
 use Rattle.toml_editor.proofs.written.BelowPlace.{standing_behind}
 use Rattle.toml_editor.proofs.written.Counted.{AreLast, last_child}
 use Rattle.toml_editor.proofs.written.ElementLeads.{apart_element, next_leads}
@@ -53,7 +54,7 @@ index_is_element (s ∷ t ∷ q) i = by (element_of (element (t ∷ q) i)) (inde
     by None is = is
     by (Some e) is = refl
 
-above_child : (r : Address) (n : List ℕ) → right_above (child r n) ≡ r
+above_child : (r : Address) (n : List ℕ) → parent_of (child r n) ≡ r
 above_child [] n = refl
 above_child (s ∷ []) n = refl
 above_child (s ∷ t ∷ r) n = ap (λ a. s ∷ a) (above_child (t ∷ r) n)
@@ -95,7 +96,7 @@ line_below lines kinds facts q some outside not_root = by (list_any (is_below q)
 pub section_put_following : (q : Address) (name style : List ℕ) (may : Bool) (lines : List Line) (kinds : Kinds) → AreLines lines → KeepsRules (named lines)
     → IsDataOf (named lines) kinds → IsRoom q name kinds → list_any (holds q) (standing lines) ≡ false
     → StandsWithHeader One (child q name) style lines (writes_blank q (child q name) One style may (standing lines) ≡ true)
-    (header_followed q One (child q name) style may lines) (put_following q (child q name) One style may (standing lines))
+    (with_header_following q One (child q name) style may lines) (put_following q (child q name) One style may (standing lines))
 section_put_following q name style may lines kinds forms keeps facts room outside =
     subst (λ f. StandsWithHeader One p style lines Blank (header_at f) (put_at f)) (sym family_is)
     (header_put_following One p q q style may lines Blank forms (λ xs last. last)
@@ -127,7 +128,7 @@ section_put_following q name style may lines kinds forms keeps facts room outsid
 pub element_put_following : (q : Address) (i : ℕ) (style : List ℕ) (may : Bool) (lines : List Line) (kinds : Kinds) → AreLines lines → KeepsRules (named lines)
     → IsDataOf (named lines) kinds → IsNextElement q i kinds → list_any (holds q) (standing lines) ≡ false
     → StandsWithHeader Two (element q i) style lines (writes_blank q (element q i) Two style may (standing lines) ≡ true)
-    (header_followed q Two (element q i) style may lines) (put_following q (element q i) Two style may (standing lines))
+    (with_header_following q Two (element q i) style may lines) (put_following q (element q i) Two style may (standing lines))
 element_put_following q i style may lines kinds forms keeps facts next outside = by (list_any (is_below q) (standing lines)) refl
   where
     p : Address
@@ -162,11 +163,11 @@ element_put_following q i style may lines kinds forms keeps facts next outside =
     blank_by f is absent due = ap₂ (λ o b. not (is_some o) && b) (ap beside is ∙ absent) due
 
     put_by : (f : Address) → family q p (standing lines) ≡ f → StandsWithHeader Two p style lines Blank (header_at f) (put_at f)
-        → StandsWithHeader Two p style lines Blank (header_followed q Two p style may lines) (put_following q p Two style may (standing lines))
+        → StandsWithHeader Two p style lines Blank (with_header_following q Two p style may lines) (put_following q p Two style may (standing lines))
     put_by f is = subst (λ x. StandsWithHeader Two p style lines Blank (header_at x) (put_at x)) (sym is)
 
     by : (b : Bool) → list_any (is_below q) (standing lines) ≡ b
-        → StandsWithHeader Two p style lines Blank (header_followed q Two p style may lines) (put_following q p Two style may (standing lines))
+        → StandsWithHeader Two p style lines Blank (with_header_following q Two p style may lines) (put_following q p Two style may (standing lines))
     by true there =
         let is : family q p (standing lines) ≡ q = cond-false _ _ _ (ap₂ (λ a b. a && not b) (index_is_element q i) there) in
         put_by q is
@@ -174,7 +175,7 @@ element_put_following q i style may lines kinds forms keeps facts next outside =
         (λ front back split none. apart_element q i front back none) (blank_by q is))
     by false none =
         let is : family q p (standing lines) ≡ r =
-        cond-true _ _ _ (ap₂ (λ a b. a && not b) (index_is_element q i) none) ∙ ap right_above q_is ∙ above_child r n in
+        cond-true _ _ _ (ap₂ (λ a b. a && not b) (index_is_element q i) none) ∙ ap parent_of q_is ∙ above_child r n in
         put_by r is
         (header_put_following Two p q r style may lines Blank forms (λ xs last. subst (AreLast xs) (sym q_is) (last_child xs r n last)) leads_there
         (line_below lines kinds facts r (subst IsSome (sym next.table.3) refl)

@@ -13,7 +13,7 @@ use Rattle.toml_names.specs.model.Addresses.{Address}
 use Rattle.toml_names.specs.reader.Names.{own_address}
 use Rattle.toml_layout.specs.TreeOutlines.{line_outline}
 use Rattle.toml_layout.specs.declared.tree.Brackets.{Brackets}
-use Rattle.toml_working.specs.FollowingHeaders.{behind_family, behind_last, but_last, ends_empty, ends_filled, has_parts, header_behind, header_ws, is_close, is_filled, last_that, or_at_end, or_earlier, put_at_end, wants_blank, ws_of}
+use Rattle.toml_working.specs.FollowingHeaders.{behind_family, behind_below, but_last, ends_empty, ends_filled, has_parts, header_behind, header_ws, is_close, is_filled, last_that, or_at_end, or_earlier, put_at_end, wants_blank, ws_of}
 use Rattle.toml_working.specs.Heading.{Shown, header_expr, header_line, line_at_end, shown}
 use Rattle.toml_working.specs.Headers.{has_no_bytes, new_header, put_at_text_end}
 use Rattle.toml_working.specs.InsertStanding as stood
@@ -95,9 +95,9 @@ module _ (brackets : Brackets) (p q family : Address) (style : List ℕ) (may : 
         (each_front IsSpaced front back (subst (EachIs IsSpaced) split (each_spaced lines (root ∷ []) 0 (each_form lines are))))
 
     -- behind the last section of the family
-    beside : (it : Followed h new family [] (shown lines) (line_behind_below family h [] (shown lines)) (behind_last family new [] (stand_of (shown lines))))
+    beside : (it : Followed h new family [] (shown lines) (line_behind_below family h [] (shown lines)) (behind_below family new [] (stand_of (shown lines))))
         → WithHeader (or_header_at_end p brackets style may lines (line_behind_below family h [] (shown lines)))
-        (or_at_end p brackets style may (standing lines) (behind_last family new [] (standing lines)))
+        (or_at_end p brackets style may (standing lines) (behind_below family new [] (standing lines)))
     beside it =
         let front = it.before ++ it.line ∷ it.between in
         let ahead = stand_of it.before ++ it.line.1 ∷ stand_of it.between in
@@ -118,7 +118,7 @@ module _ (brackets : Brackets) (p q family : Address) (style : List ℕ) (may : 
         alone (leads (header_ws p ahead) (lines_of front) (lines_of it.back) are.lines last alone) _ _
         (ap (or_header_at_end p brackets style may lines) it.lines
         ∙ ap (λ x. x ++ h ahead ∷ lines_of it.back) (sym (map-append (λ (x : Shown). x.0) it.before (it.line ∷ it.between))))
-        (ap (or_at_end p brackets style may (standing lines)) (ap (behind_last family new []) (sym (shown_stands lines (root ∷ []) 0)) ∙ it.stands)
+        (ap (or_at_end p brackets style may (standing lines)) (ap (behind_below family new []) (sym (shown_stands lines (root ∷ []) 0)) ∙ it.stands)
         ∙ ap (λ x. x ++ new ahead ∷ stand_of it.back) (sym all))
       where
         some : (back : List Shown) → lines_of back ≡ [] → list_any is_filled (stand_of back) ≡ true → ⊥
@@ -182,18 +182,18 @@ module _ (brackets : Brackets) (p q family : Address) (style : List ℕ) (may : 
             (ap (λ f. or_header_at_end p brackets style may lines (line_behind_family f h (shown lines))) is
             ∙ ap (λ f. or_header_at_end p brackets style may lines (line_behind_below f h [] (shown lines))) (sym is))
             (ap (λ f. or_at_end p brackets style may (standing lines) (behind_family f new (standing lines))) is
-            ∙ ap (λ f. or_at_end p brackets style may (standing lines) (behind_last f new [] (standing lines))) (sym is))
+            ∙ ap (λ f. or_at_end p brackets style may (standing lines) (behind_below f new [] (standing lines))) (sym is))
             (elim (followed h new family (shown lines) []) [
               | inl none ↦
                   let some : ¬ (family ≡ []) = λ none'. (let x : ◌≡◌ {A = Address} [] (s ∷ r) = sym none' ∙ is in cc) in
                   let last = none.last (ap (list_any (is_below family)) (shown_stands lines (root ∷ []) 0) ∙ stands some) in
-                  let absent : behind_last family new [] (standing lines) ≡ None =
-                  ap (behind_last family new []) (sym (shown_stands lines (root ∷ []) 0)) ∙ none.stand_none in
+                  let absent : behind_below family new [] (standing lines) ≡ None =
+                  ap (behind_below family new []) (sym (shown_stands lines (root ∷ []) 0)) ∙ none.stand_none in
                   stands_as brackets p style lines Blank _ _ _ _ (ap (or_header_at_end p brackets style may lines) none.put_none)
                   (ap (or_at_end p brackets style may (standing lines)) absent)
                   (end (subst (λ ls. AreLast (named ls) family) (ap lines_of (sym last.is) ∙ shown_lines lines (root ∷ []) 0)
                   (reached last.before last.line last.between []
                   (last.is ∙ ap (λ x. last.before ++ last.line ∷ x) (sym (append-nil last.between))) last.below last.headless))
-                  (ap (λ f. behind_family f new (standing lines)) is ∙ ap (λ f. behind_last f new [] (standing lines)) (sym is) ∙ absent))
+                  (ap (λ f. behind_family f new (standing lines)) is ∙ ap (λ f. behind_below f new [] (standing lines)) (sym is) ∙ absent))
               | inr it ↦ beside it
             ])

@@ -6,7 +6,7 @@ use Rattle.std.specs.List.{list_any}
 use Rattle.toml_tree.specs.Spells.{EachIs}
 use Rattle.toml_tree.specs.Tree.{Line}
 use Rattle.toml_names.specs.model.Addresses.{Address}
-use Rattle.toml_working.specs.FollowingHeaders.{behind_last, behind_section, is_filled}
+use Rattle.toml_working.specs.FollowingHeaders.{behind_below, behind_section, is_filled}
 use Rattle.toml_working.specs.Heading.{Shown}
 use Rattle.toml_working.specs.InsertStanding.{has_pair, is_bare, is_blank, pair_or}
 use Rattle.toml_working.specs.Placing.{is_header}
@@ -151,8 +151,8 @@ module _ (h : List Standing → Line) (new : List Standing → Standing) where
       pub last : list_any (is_below f) (stand_of xs) ≡ true → LastThere xs
 
     pub followed : (xs : List Shown) (front : List Standing)
-        → NotFollowed xs (line_behind_below f h front xs) (behind_last f new front (stand_of xs))
-        ⊎ Followed front xs (line_behind_below f h front xs) (behind_last f new front (stand_of xs))
+        → NotFollowed xs (line_behind_below f h front xs) (behind_below f new front (stand_of xs))
+        ⊎ Followed front xs (line_behind_below f h front xs) (behind_below f new front (stand_of xs))
     followed [] front = inl (record { put_none = refl; stand_none = refl; last = λ is. absurd (true≢false (sym is)) })
     followed (x ∷ xs) front = by (list_any (is_below f) (stand_of xs)) refl (is_below f x.1) refl (followed xs (front ++ x.1 ∷ [])) (in_section xs x front)
       where
@@ -160,13 +160,13 @@ module _ (h : List Standing → Line) (new : List Standing → Standing) where
         put = line_behind_below f h front (x ∷ xs)
 
         stand : Option (List Standing)
-        stand = behind_last f new front (stand_of (x ∷ xs))
+        stand = behind_below f new front (stand_of (x ∷ xs))
 
         put_later : Option (List Line)
         put_later = line_behind_below f h (front ++ x.1 ∷ []) xs
 
         stand_later : Option (List Standing)
-        stand_later = behind_last f new (front ++ x.1 ∷ []) (stand_of xs)
+        stand_later = behind_below f new (front ++ x.1 ∷ []) (stand_of xs)
 
         put_here : Option (List Line)
         put_here = line_behind_section h front (x ∷ xs)

@@ -28,16 +28,16 @@ use Rattle.toml_layout.specs.declared.tree.Leaf.{Leaf}
 use Rattle.toml_working.specs.declared.working.Tree.{Tree}
 use Rattle.toml_working.specs.AddingHeaders.{IsAsked}
 use Rattle.toml_working.specs.Following.{ArrayIsNotRoot, may_write_blank}
-use Rattle.toml_working.specs.FollowingHeaders.{ends_in_newline}
 use Rattle.toml_working.specs.HeaderStanding.{blank_standing, header_laid_out, header_standing}
 use Rattle.toml_working.specs.Headers.{element_of, innermost}
-use Rattle.toml_working.specs.Manners.{Manner}
+use Rattle.toml_working.specs.Manners.{Manner, ends_in_newline}
 use Rattle.toml_working.specs.Putting.{manner}
 use Rattle.toml_working.specs.PuttingHeaders.{AreSpellings}
 use Rattle.toml_working.specs.Standing.{Read, holds, standing}
 use Rattle.toml_working.specs.Stands.{KeepsTexts, Stands}
 use Rattle.toml_working.specs.Starting.{NoneIsGone}
-use Rattle.toml_editor.specs.EditedLines.{IsInNoValue, header_put_in, manner_behind}
+use Rattle.toml_working.specs.Premises.{IsInNoValue}
+use Rattle.toml_editor.specs.EditedLines.{with_header, manner_behind}
 use Rattle.toml_editor.specs.Exact.{Follows, IsAt, WritesHeader}
 use Rattle.toml_editor.specs.PlainTexts.{IsSpreadIn}
 use Rattle.toml_editor.specs.SpelledEdits.{AreSteps, step_spelled}
@@ -76,9 +76,9 @@ still_may false false false = refl
 pub header_told : (profile : Profile) (read : Read) (old new : Tree) (brackets : Brackets) (p q : Address) (last : Step) (text : List ℕ) (kinds : Kinds)
     (at : IsAt profile read old text kinds) → p ≡ q ++ last ∷ [] → ArrayIsNotRoot q p → (steps : List (String Global)) → AreSteps p steps
     → (done : Bool) → WritesHeader brackets read p steps old new done → let ss = standing at.good.tree.lines in
-    Stands (text_of old.texts.source) read new.slots.items (header_standing q p brackets (manner old) (may_write_blank old) ss)
+    Stands (text_of old.texts.source) read new.slots.items (header_standing q p brackets (manner old) ss)
     × (done ≡ not (list_any (holds q) ss))
-    × (new.has_written_blank ≡ (old.has_written_blank || blank_standing q p brackets (manner old) (may_write_blank old) ss))
+    × (new.has_written_blank ≡ (old.has_written_blank || blank_standing q p brackets (manner old) ss))
 header_told profile read old new brackets p q last text kinds at own array steps spells done puts =
     let lines = at.good.tree.lines in
     let rules = at.good.good.0 in
@@ -93,7 +93,7 @@ module _ (profile : Profile) (read : Read) (old new : Tree) (brackets : Brackets
   lines = at.good.tree.lines
 
   -- what then is written by
-  header_manner : new.has_written_blank ≡ (old.has_written_blank || blank_standing q p brackets (manner old) (may_write_blank old) (standing lines))
+  header_manner : new.has_written_blank ≡ (old.has_written_blank || blank_standing q p brackets (manner old) (standing lines))
       → manner new ≡ manner_behind brackets p (manner old) lines
   header_manner blank =
       ap₂ (λ (t : Texts) (s : Leaf). made t s (not new.has_written_blank && ends_in_newline (text_of t.source))) rest.texts rest.style
@@ -105,11 +105,11 @@ module _ (profile : Profile) (read : Read) (old new : Tree) (brackets : Brackets
       made t s b = record { newline = leaf_text s; layout = t.layout; may_blank = b }
 
       written : Address → Bool
-      written r = blank_standing r p brackets (manner old) (may_write_blank old) (standing lines)
+      written r = blank_standing r p brackets (manner old) (standing lines)
 
   -- it is made, and the tree then stands for the lines with it
   header_made : StandsInLayout (manner old).layout q brackets (q ++ last ∷ []) (manner old) lines
-      → (done ≡ true) × Stands (text_of new.texts.source) read new.slots.items (standing (header_put_in (manner old).layout q brackets p (manner old) lines))
+      → (done ≡ true) × Stands (text_of new.texts.source) read new.slots.items (standing (with_header (manner old).layout q brackets p (manner old) lines))
       × (manner new ≡ manner_behind brackets p (manner old) lines)
   header_made there =
       let laid = subst Laid (sym own) there.stands in
@@ -121,8 +121,8 @@ module _ (profile : Profile) (read : Read) (old new : Tree) (brackets : Brackets
     where
       Laid : Address → Type 0
       Laid x =
-          standing (header_put_in (manner old).layout q brackets x (manner old) lines)
-          ≡ header_laid_out (manner old).layout q x brackets (manner old) (may_write_blank old) (standing lines)
+          standing (with_header (manner old).layout q brackets x (manner old) lines)
+          ≡ header_laid_out (manner old).layout q x brackets (manner old) (standing lines)
 
 -- a section is made, and so is the text
 pub section_follows : (profile : Profile) (read : Read) (old new : Tree) (p : Address) (text : List ℕ) (kinds now : Kinds) (at : IsAt profile read old text kinds)
@@ -133,7 +133,7 @@ section_follows profile read old new p text kinds now at none is_after (q, name,
     let lines = at.good.tree.lines in
     let room = section_room profile q name kinds (subst (λ x. IsFault profile (new_section x) kinds None) own none) in
     let array : ArrayIsNotRoot q p = subst (ArrayIsNotRoot q) (sym own) (λ some root. (let x = name_is_no_element q name in cc)) in
-    let put = header_put_in (manner old).layout q One p (manner old) lines in
+    let put = with_header (manner old).layout q One p (manner old) lines in
     let there = section_laid_out q name (manner old) lines kinds at.good.spelled.0.lines.forms at.good.good.0 at.good.facts room outside in
     let (is_done, stands, mannered) = header_made profile read old new One p q (Name name) text kinds at own outside array rest steps spells done puts there in (
       is_done,
@@ -151,7 +151,7 @@ element_follows profile read old new p text kinds now at none is_after (q, i, ow
     let room = element_room profile q i kinds (lines_are_closed lines kinds at.good.good.0 at.good.facts)
     (subst (λ x. IsFault profile (new_element x) kinds None) own none) in
     let array : ArrayIsNotRoot q p = (λ some root. no_end room.table.0 (Name room.table.1) [] (sym root ∙ room.table.2)) in
-    let put = header_put_in (manner old).layout q Two p (manner old) lines in
+    let put = with_header (manner old).layout q Two p (manner old) lines in
     let there = element_laid_out q i (manner old) lines kinds at.good.spelled.0.lines.forms at.good.good.0 at.good.facts room outside in
     let (is_done, stands, mannered) = header_made profile read old new Two p q (Index i) text kinds at own outside array rest steps spells done puts there in (
       is_done,

@@ -13,7 +13,8 @@ use Rattle.toml_layout.specs.declared.tree.Brackets.{Brackets}
 use Rattle.toml_working.specs.HeaderStanding.{blank_laid_out, header_laid_out}
 use Rattle.toml_working.specs.Manners.{Manner}
 use Rattle.toml_working.specs.Standing.{standing}
-use Rattle.toml_editor.specs.EditedLines.{IsInNoValue, header_put_in}
+use Rattle.toml_working.specs.Premises.{IsInNoValue}
+use Rattle.toml_editor.specs.EditedLines.{with_header}
 use Rattle.toml_editor.proofs.written.PlainFacts.{element_put_plainly, section_put_plainly}
 use Rattle.toml_editor.proofs.written.FollowedFacts.{element_put_following, section_put_following}
 use Rattle.toml_editor.proofs.written.HeaderThere.{StandsWithHeader}
@@ -23,8 +24,8 @@ use Rattle.toml_editor.proofs.written.HeaderFacts.{IsNextElement, IsRoom}
 -- blank line is written before it.
 abbrev pub StandsInLayout : Layout → Address → Brackets → Address → Manner → List Line → Type 0
 StandsInLayout layout q brackets p manner lines =
-    StandsWithHeader brackets p manner.newline lines (blank_laid_out layout q p brackets manner manner.may_blank (standing lines) ≡ true)
-    (header_put_in layout q brackets p manner lines) (header_laid_out layout q p brackets manner manner.may_blank (standing lines))
+    StandsWithHeader brackets p manner.newline lines (blank_laid_out layout q p brackets manner (standing lines) ≡ true)
+    (with_header layout q brackets p manner lines) (header_laid_out layout q p brackets manner (standing lines))
 
 module _ (manner : Manner) (lines : List Line) (kinds : Kinds) (forms : AreLines lines) (keeps : KeepsRules (named lines)) (facts : IsDataOf (named lines) kinds) where
   section_by_layout : (layout : Layout) (q : Address) (name : List ℕ) → IsRoom q name kinds → IsInNoValue lines q

@@ -12,8 +12,8 @@ use Rattle.toml_edits.specs.Edits.{new_element, new_section}
 use Rattle.toml_edits.specs.Faults.{IsFault}
 use Rattle.toml_layout.specs.declared.tree.Brackets.TheVariants.{One, Two}
 use Rattle.toml_working.specs.Manners.{Manner}
-use Rattle.toml_editor.specs.EditedLines.{IsInNoValue}
-use Rattle.toml_editor.specs.HeaderLaws.{ElementNames, ElementStands, SectionNames, SectionStands}
+use Rattle.toml_working.specs.Premises.{IsInNoValue}
+use Rattle.toml_editor.specs.HeaderLaws.{ElementNames, ElementIsLaidOut, SectionNames, SectionIsLaidOut}
 use Rattle.toml_editor.proofs.written.HeaderFacts.{element_room, section_room}
 use Rattle.toml_editor.proofs.written.ElementNamed.{element_is_put}
 use Rattle.toml_editor.proofs.written.HeaderLaidOut.{StandsInLayout, element_laid_out, section_laid_out}
@@ -37,10 +37,10 @@ pub element_names : ElementNames
 element_names profile q i manner lines kinds forms keeps facts none outside =
     element_is_put q i manner.newline lines _ (element_placed profile q manner lines kinds forms keeps facts outside i none).header
 
-pub section_stands : SectionStands
-section_stands profile q name manner lines kinds forms keeps facts none outside =
+pub section_is_laid_out : SectionIsLaidOut
+section_is_laid_out profile q name manner lines kinds forms keeps facts none outside =
     (section_placed profile q manner lines kinds forms keeps facts outside name none).stands
 
-pub element_stands : ElementStands
-element_stands profile q i manner lines kinds forms keeps facts none outside =
+pub element_is_laid_out : ElementIsLaidOut
+element_is_laid_out profile q i manner lines kinds forms keeps facts none outside =
     (element_placed profile q manner lines kinds forms keeps facts outside i none).stands

@@ -8,8 +8,8 @@ use Rattle.toml_names.specs.model.Addresses.{Address}
 use Rattle.toml_names.specs.reader.Names.{own_address}
 use Rattle.toml_units.specs.Units.{line_base}
 use Rattle.toml_layout.specs.declared.tree.Brackets.{Brackets}
-use Rattle.toml_working.specs.Heading.{Shown, header_expr, header_line, header_lines, line_at_end, line_before_next, line_put_plainly, or_line_at_end, shown}
-use Rattle.toml_working.specs.Headers.{before_next, has_below, innermost, new_header, or_last, put_at_text_end, put_plainly}
+use Rattle.toml_working.specs.Heading.{Shown, header_expr, header_line, with_header_plainly, line_at_end, line_before_next, line_put_plainly, or_line_at_end, shown}
+use Rattle.toml_working.specs.Headers.{before_next, has_below, innermost, new_header, or_at_text_end, put_at_text_end, put_plainly}
 use Rattle.toml_working.specs.Inserting.{has_pair}
 use Rattle.toml_working.specs.Placing.{is_header}
 use Rattle.toml_working.specs.Seeing.{heads_below}
@@ -79,7 +79,7 @@ module _ (brackets : Brackets) (p q : Address) (style : List ℕ) (lines : List 
     -- before the next header line behind those of the element
     next_put : (e : Address) → innermost q ≡ Some e → (it : NextHeader (h style) (new style) e (shown lines))
         → StandsWithHeader brackets p style lines Blank (or_line_at_end h style lines (line_before_next e (h style) (shown lines)))
-        (or_last new style (standing lines) (before_next e (new style) (standing lines)))
+        (or_at_text_end new style (standing lines) (before_next e (new style) (standing lines)))
     next_put e inner it =
         let parted = it.parted in
         let front = lines_of parted.front in
@@ -92,16 +92,16 @@ module _ (brackets : Brackets) (p q : Address) (style : List ℕ) (lines : List 
         stands_before brackets p style lines Blank [] (λ are'. tt) parted.front (parted.head ∷ parted.rest) parted.was (λ none. cc) unkeyed alone
         (leads front back are.lines (reached_behind e inner parted.front (parted.head ∷ parted.rest) parted.was it.last) alone) _ _
         (ap (or_line_at_end h style lines) parted.lines)
-        (ap (or_last new style (standing lines)) (ap (before_next e (new style)) (sym (shown_stands lines (root ∷ []) 0)) ∙ parted.stands))
+        (ap (or_at_text_end new style (standing lines)) (ap (before_next e (new style)) (sym (shown_stands lines (root ∷ []) 0)) ∙ parted.stands))
 
-    pub header_put_plainly : StandsWithHeader brackets p style lines Blank (header_lines q brackets p style lines) (put_plainly (innermost q) new style (standing lines))
+    pub header_put_plainly : StandsWithHeader brackets p style lines Blank (with_header_plainly q brackets p style lines) (put_plainly (innermost q) new style (standing lines))
     header_put_plainly = by (innermost q) refl
       where
         end : IsReached lines → StandsWithHeader brackets p style lines Blank (line_at_end h style lines) (put_at_text_end new style (standing lines))
         end = stands_at_end brackets p style lines Blank [] (λ are. tt) q forms leads
 
         by : (o : Option Address) → innermost q ≡ o
-            → StandsWithHeader brackets p style lines Blank (header_lines q brackets p style lines) (put_plainly (innermost q) new style (standing lines))
+            → StandsWithHeader brackets p style lines Blank (with_header_plainly q brackets p style lines) (put_plainly (innermost q) new style (standing lines))
         by None inner =
             stands_as brackets p style lines Blank _ _ _ _ (ap (λ o. line_put_plainly o h style lines) inner) (ap (λ o. put_plainly o new style (standing lines)) inner)
             (end (λ r rest i is. let (e, some', more, split) = index_in r rest i in
@@ -111,7 +111,7 @@ module _ (brackets : Brackets) (p q : Address) (style : List ℕ) (lines : List 
             (elim (next_header (h style) (new style) e (shown lines)) [
               | inl none ↦
                   stands_as brackets p style lines Blank _ _ _ _ (ap (or_line_at_end h style lines) none.put)
-                  (ap (or_last new style (standing lines)) (ap (before_next e (new style)) (sym (shown_stands lines (root ∷ []) 0)) ∙ none.stand))
+                  (ap (or_at_text_end new style (standing lines)) (ap (before_next e (new style)) (sym (shown_stands lines (root ∷ []) 0)) ∙ none.stand))
                   (end (subst IsReached (shown_lines lines (root ∷ []) 0)
                   (reached_behind e inner (shown lines) [] (sym (append-nil (shown lines)))
                   (none.last (ap (has_below e) (shown_stands lines (root ∷ []) 0) ∙ headed e inner)))))

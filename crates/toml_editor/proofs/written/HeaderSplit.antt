@@ -10,7 +10,7 @@ use Rattle.toml_names.specs.model.Addresses.{Address}
 use Rattle.toml_layout.specs.Outlines.{LineOutline}
 use Rattle.toml_layout.specs.TreeOutlines.{line_outline}
 use Rattle.toml_working.specs.declared.lines.Sought.TheVariants as sought
-use Rattle.toml_working.specs.Heading.{Shown, line_at_end, line_before_header, line_before_next, line_behind_last}
+use Rattle.toml_working.specs.Heading.{Shown, line_at_end, line_before_header, line_before_next, line_put_after}
 use Rattle.toml_working.specs.Headers.{before_header, before_next, has_below, has_no_bytes, put_after, put_at_text_end}
 use Rattle.toml_working.specs.Placing.{IsNoHeader, is_header}
 use Rattle.toml_working.specs.Seeing.{is_sought_line}
@@ -184,7 +184,7 @@ module _ (h : List ℕ → Line) (new : List ℕ → Standing) (style : List ℕ
     pub last : Shown
     pub was : xs ≡ front ++ last ∷ []
     pub full : has_no_bytes (line_outline last.0) ≡ false
-    pub lines : line_at_end h style (lines_of xs) ≡ lines_of front ++ line_behind_last h style last.0 last.0.newline.text
+    pub lines : line_at_end h style (lines_of xs) ≡ lines_of front ++ line_put_after h style last.0 last.0.newline.text
     pub stands : put_at_text_end new style (stand_of xs) ≡ stand_of front ++ put_after new style last.1 last.0.newline.text
 
   -- lines end so, if there are some

@@ -18,7 +18,7 @@ use Rattle.toml_layout.specs.TreeOutlines.{line_of, line_outline}
 use Rattle.toml_layout.specs.declared.tree.Brackets.{Brackets}
 use Rattle.toml_layout.specs.declared.tree.Brackets.TheVariants.{One, Two}
 use Rattle.toml_working.specs.FollowingHeaders.{blank_line}
-use Rattle.toml_working.specs.Heading.{Shown, header_expr, header_line, line_at_end, line_behind_last, shown}
+use Rattle.toml_working.specs.Heading.{Shown, header_expr, header_line, line_at_end, line_put_after, shown}
 use Rattle.toml_working.specs.Headers.{has_no_bytes, new_header, put_after, put_at_text_end}
 use Rattle.toml_working.specs.Inserting.{has_pair}
 use Rattle.toml_working.specs.InsertStanding.{end_in}
@@ -197,16 +197,16 @@ module _ (brackets : Brackets) (p : Address) (style : List ℕ) (lines : List Li
         (ap (put_at_text_end new style) (sym (shown_stands lines (root ∷ []) 0)) ∙ it.stands)
 
     -- behind the last line
-    behind_last : AreLines lines → (it : BehindLast h new style (shown lines)) → Leads (lines_of it.front ++ it.last.0 ∷ [])
+    behind_below : AreLines lines → (it : BehindLast h new style (shown lines)) → Leads (lines_of it.front ++ it.last.0 ∷ [])
         → StandsWithHeader (line_at_end h style lines) (put_at_text_end new style (standing lines))
-    behind_last forms it leads =
+    behind_below forms it leads =
         let before = lines_of it.front in
         let last = it.last.0 in
         let are = parts it.front (it.last ∷ []) lines [] it.was in
         let opened = last_open before last (subst AreLines are.lines forms) in
         let closed = before ++ ended style last ∷ [] in
         let is : line_at_end h style lines ≡ before ++ ended style last ∷ h [] ∷ [] =
-        ap (line_at_end h style) (sym (shown_lines lines (root ∷ []) 0)) ∙ it.lines ∙ ap (λ t. before ++ line_behind_last h style last t) opened in
+        ap (line_at_end h style) (sym (shown_lines lines (root ∷ []) 0)) ∙ it.lines ∙ ap (λ t. before ++ line_put_after h style last t) opened in
         let here : line_stands (named before) last ≡ it.last.1 = (let x = are.back_stands in cc) in
         let ends : line_stands (named before) (ended style last) ≡ end_in style it.last.1 =
         ap (λ o. record { address = own_address (named before) last.expr; base = line_base (named before) last.expr; outline = o })
@@ -293,5 +293,5 @@ module _ (brackets : Brackets) (p : Address) (style : List ℕ) (lines : List Li
       | inr it ↦
           let front = lines_of it.front ++ it.last.0 ∷ [] in
           let are = parts it.front (it.last ∷ []) lines [] it.was in
-          behind_last forms it (leads front [] (are.lines ∙ sym (append-nil front)) (subst (λ ls. AreLast (named ls) q) are.lines last) (apart_at_end brackets p front))
+          behind_below forms it (leads front [] (are.lines ∙ sym (append-nil front)) (subst (λ ls. AreLast (named ls) q) are.lines last) (apart_at_end brackets p front))
     ]

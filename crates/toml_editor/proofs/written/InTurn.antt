@@ -16,7 +16,7 @@ use Rattle.toml_units.specs.Units.{line_base}
 use Rattle.toml_layout.specs.Beginnings.{begins}
 use Rattle.toml_layout.specs.declared.layout.Layout.TheVariants as layouts
 use Rattle.toml_working.specs.HeaderStanding.{ElementIn}
-use Rattle.toml_working.specs.Headers.{ElementStands, StandInTurn, begins_later, element_of, has_below, innermost, is_later, later_in}
+use Rattle.toml_working.specs.Headers.{ElementIsLaidOut, StandInTurn, begins_later, element_of, has_below, innermost, is_later, later_in}
 use Rattle.toml_working.specs.Seeing.{heads, heads_below, is_sought_line}
 use Rattle.toml_working.specs.Standing.{Standing, standing}
 use Rattle.toml_working.specs.declared.lines.Sought.TheVariants as sought
@@ -194,7 +194,7 @@ header_is_taken layout q lines are keeps =
     let rooted = root_comes_first lines are in
     record { some = rooted.some; root = rooted.none; element = by layout }
   where
-    inner : (o : Option Address) → innermost q ≡ o → ElementStands o (standing lines)
+    inner : (o : Option Address) → innermost q ≡ o → ElementIsLaidOut o (standing lines)
     inner None is = tt
     inner (Some e) is = let it = inner_is q e is in stand_in_turn lines e it.array it.index it.is
 

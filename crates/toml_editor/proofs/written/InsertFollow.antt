@@ -27,7 +27,7 @@ use Rattle.toml_editor.specs.SpelledEdits.{AreSteps, step_spelled}
 use Rattle.toml_working.specs.Standing.{Read, standing}
 use Rattle.toml_working.specs.Stands.{KeepsRest, Stands}
 use Rattle.toml_working.specs.Starting.{NoneIsGone}
-use Rattle.toml_working.specs.Written.{HasSection}
+use Rattle.toml_working.specs.Premises.{HasSection}
 use Rattle.toml_editor.specs.Steps.{IsPlain}
 use Rattle.toml_layout.specs.TreeOutlines.{value_outline}
 use Rattle.toml_editor.proofs.SourceKept.{source_kept}

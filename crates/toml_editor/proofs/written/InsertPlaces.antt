@@ -10,7 +10,7 @@ use Rattle.toml_working.specs.Inserting.{insert_in, line_put, new_line, spacing_
 use Rattle.toml_working.specs.FirstKeys.{spacing_after}
 use Rattle.toml_working.specs.Manners.{Manner}
 use Rattle.toml_working.specs.Standing.{line_stands, standing}
-use Rattle.toml_working.specs.Written.{HasSection}
+use Rattle.toml_working.specs.Premises.{HasSection}
 use Rattle.toml_editor.proofs.written.BelowPlace.{all_headless, below_full, below_place, below_section}
 use Rattle.toml_editor.proofs.written.InsertPlace.{IsFull, IsHeadless, insert_place}
 use Rattle.toml_editor.proofs.written.InsertSpaced.{IsSpacing, behind_spaced, put_spaced}

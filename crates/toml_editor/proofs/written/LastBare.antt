@@ -7,7 +7,7 @@ use Rattle.toml_names.specs.mentions.Mentions.{Named, named_by, root}
 use Rattle.toml_units.specs.Bares.{bare_unit}
 use Rattle.toml_units.specs.declared.unit.UnitKind.TheVariants as kinds
 use Rattle.toml_units.specs.Units.{TextUnit, comment_units, inside_line, line_unit, line_units, units, units_from}
-use Rattle.toml_working.specs.FollowingHeaders.{ends_in_newline}
+use Rattle.toml_working.specs.Manners.{ends_in_newline}
 use Rattle.toml_editor.proofs.written.EndsBare.{ends_bare}
 use Rattle.toml_editor.proofs.written.InsertSpaced.{line_formed}
 use Rattle.toml_editor.proofs.written.LastLines.{array_long, comment_long, pair_long, table_long}

@@ -15,7 +15,7 @@ use Rattle.toml_names.proofs.Proved.{header_is_section}
 use Rattle.toml_layout.specs.Beginnings.{begins}
 use Rattle.toml_layout.specs.declared.tree.Brackets.TheVariants.{One, Two}
 use Rattle.toml_working.specs.declared.lines.Sought.TheVariants as sought
-use Rattle.toml_working.specs.Heading.{header_lines}
+use Rattle.toml_working.specs.Heading.{with_header_plainly}
 use Rattle.toml_working.specs.Headers.{has_below, inner_of, innermost, new_header, put_plainly}
 use Rattle.toml_working.specs.Inserting.{has_pair}
 use Rattle.toml_working.specs.Seeing.{is_sought_line}
@@ -32,7 +32,7 @@ use Rattle.toml_editor.proofs.written.HeaderPut.{IsApart}
 use Rattle.toml_editor.proofs.written.HeaderThere.{StandsWithHeader}
 use Rattle.toml_editor.proofs.written.HeaderFacts.{IsNextElement, IsRoom}
 use Rattle.toml_editor.proofs.written.TablesStay.{begins_under, under_begins}
-use Rattle.toml_editor.specs.EditedLines.{IsInNoValue}
+use Rattle.toml_working.specs.Premises.{IsInNoValue}
 
 -- names lead to no other innermost element
 inner_child : (r : Address) (n : List ℕ) → innermost (child r n) ≡ innermost r
@@ -104,7 +104,7 @@ module _ (e array : Address) (i : ℕ) (e_is : e ≡ element array i) (rest : Ad
 -- that of a section
 pub section_put_plainly : (q : Address) (name style : List ℕ) (lines : List Line) (Blank : Type 0) (kinds : Kinds) → AreLines lines → KeepsRules (named lines)
     → IsDataOf (named lines) kinds → IsRoom q name kinds → IsInNoValue lines q
-    → StandsWithHeader One (child q name) style lines Blank (header_lines q One (child q name) style lines)
+    → StandsWithHeader One (child q name) style lines Blank (with_header_plainly q One (child q name) style lines)
     (put_plainly (innermost q) (new_header (child q name) One []) style (standing lines))
 section_put_plainly q name style lines Blank kinds forms keeps facts room outside =
     header_put_plainly One (child q name) q style lines Blank forms
@@ -114,7 +114,7 @@ section_put_plainly q name style lines Blank kinds forms keeps facts room outsid
 -- and that of an element
 pub element_put_plainly : (q : Address) (i : ℕ) (style : List ℕ) (lines : List Line) (Blank : Type 0) (kinds : Kinds) → AreLines lines → KeepsRules (named lines)
     → IsDataOf (named lines) kinds → IsNextElement q i kinds → list_any (holds q) (standing lines) ≡ false
-    → StandsWithHeader Two (element q i) style lines Blank (header_lines q Two (element q i) style lines)
+    → StandsWithHeader Two (element q i) style lines Blank (with_header_plainly q Two (element q i) style lines)
     (put_plainly (innermost q) (new_header (element q i) Two []) style (standing lines))
 element_put_plainly q i style lines Blank kinds forms keeps facts next outside =
     header_put_plainly Two (element q i) q style lines Blank forms (next_leads q i lines kinds keeps facts next outside []) headed apart

@@ -26,7 +26,7 @@ use Rattle.toml_working.specs.Removing.{emptied_expr, emptied_line, empty_line, 
 use Rattle.toml_working.specs.RemoveStanding.{leaves_parent}
 use Rattle.toml_layout.specs.Holders.{parent_of}
 use Rattle.toml_working.specs.Standing.{standing}
-use Rattle.toml_working.specs.Written.{HasLine}
+use Rattle.toml_working.specs.Premises.{HasLine}
 use Rattle.toml_editor.proofs.written.BlockFacts.{each_old, has_old, has_new}
 use Rattle.toml_editor.proofs.written.Clear.{IsUnder}
 use Rattle.toml_editor.proofs.Each.{each_append, each_back, each_taken, each_weaker}

@@ -19,7 +19,7 @@ use Rattle.toml_editor.specs.RemoveLaws.{HasValueAt}
 use Rattle.toml_working.specs.Lines.{lines_from}
 use Rattle.toml_working.specs.Standing.{line_stands, standing_from}
 use Rattle.toml_working.specs.Removing.{empty_line, left_behind, left_of_line, lines_left, remove_line}
-use Rattle.toml_working.specs.Written.{HasLine}
+use Rattle.toml_working.specs.Premises.{HasLine}
 use Rattle.toml_working.specs.RemoveStanding.{is_pair}
 use Rattle.toml_editor.proofs.written.Alike.{alike_self, alike_pair}
 use Rattle.toml_editor.proofs.written.Behind.{put_behind, put_here}

@@ -21,7 +21,7 @@ use Rattle.toml_working.specs.Removing.{empty_table, lines_left, remove_lines}
 use Rattle.toml_working.specs.RemoveStanding.{leaves_parent, removed_one, remove_standing}
 use Rattle.toml_layout.specs.Holders.{parent_of}
 use Rattle.toml_working.specs.Standing.{standing}
-use Rattle.toml_working.specs.Written.{HasLine}
+use Rattle.toml_working.specs.Premises.{HasLine}
 use Rattle.toml_editor.proofs.written.EmptiedLine.{emptying, right_above}
 use Rattle.toml_editor.proofs.written.EmptyKept.{empty_clear, empty_data, empty_good}
 use Rattle.toml_editor.proofs.written.EmptyNamed.{empty_named}

@@ -15,7 +15,7 @@ use Rattle.toml_edits.specs.Faults.{IsFault}
 use Rattle.toml_editor.specs.Edited.{MayBeSpread}
 use Rattle.toml_editor.specs.PlainTexts.{IsSpreadIn}
 use Rattle.toml_editor.specs.Steps.{IsGoodText}
-use Rattle.toml_working.specs.Written.{HasValue}
+use Rattle.toml_working.specs.Premises.{HasValue}
 use Rattle.toml_editor.proofs.Each.{each_append}
 use Rattle.toml_editor.proofs.written.Pairwise.{has_of_any, any_of_has, has_each}
 

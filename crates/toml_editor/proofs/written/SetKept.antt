@@ -16,7 +16,7 @@ use Rattle.toml_names.proofs.Proved.{inside_is_below, inside_moves, line_values_
 use Rattle.toml_edits.specs.Carry.{carry_below, nowhere}
 use Rattle.toml_editor.specs.SetLaws.{swapped_one, swapped, SetRules, SetShort, SetData}
 use Rattle.toml_working.specs.Setting.{set_lines}
-use Rattle.toml_working.specs.Written.{HasValue}
+use Rattle.toml_working.specs.Premises.{HasValue}
 use Rattle.toml_editor.proofs.written.Clear.{differ, above_false, above_true, IsUnder, same_is, self}
 use Rattle.toml_editor.proofs.Each.{each_map, each_weaker}
 use Rattle.toml_editor.proofs.written.Pairwise.{PairsAre, Goes, Alone, each_of_all, all_of_each, pairs_of_all, all_of_pairs, each_flat, pairs_flat, pairs_with, Has, has_of_any, any_of_has, has_flat, flat_has, has_weaker, has_map, map_has, all_as_one, taken}

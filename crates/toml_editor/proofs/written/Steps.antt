@@ -30,7 +30,7 @@ use Rattle.toml_working.specs.Removing.{remove_lines}
 use Rattle.toml_working.specs.Renaming.{rename_lines}
 use Rattle.toml_working.specs.Setting.{set_lines}
 use Rattle.toml_editor.specs.Steps.{IsGoodText, IsPlain, GoodTextsAreDocuments, PlainIsWritten, PlainStep, PlainSteps, AreWritten, OneWritten, OneListWritten}
-use Rattle.toml_editor.specs.EditedLines.{AreEdited, IsWritten, header_put_in, manner_after}
+use Rattle.toml_editor.specs.EditedLines.{AreEdited, IsWritten, with_header, manner_after}
 use Rattle.toml_editor.proofs.Mannered.{keeps_newline}
 use Rattle.toml_editor.proofs.written.Fitting.{all_fit, keeps_value, unnamed, last_step}
 use Rattle.toml_editor.proofs.written.HeaderFormed.{header_forms, header_of_profile}
@@ -63,9 +63,9 @@ edited_lines profile (insert p text) manner lines old now after (q, name, at, th
 edited_lines profile (rename p to) manner lines old now after plain = (rename_lines p to lines, refl)
 edited_lines profile (remove p) manner lines old now after there = (remove_lines p lines, (there, refl))
 edited_lines profile (new_section p) manner lines old now after (q, name, at, outside) =
-    (header_put_in manner.layout q One p manner lines, (q, name, at, outside, refl))
+    (with_header manner.layout q One p manner lines, (q, name, at, outside, refl))
 edited_lines profile (new_element p) manner lines old now after (q, i, at, outside) =
-    (header_put_in manner.layout q Two p manner lines, (q, i, at, outside, refl))
+    (with_header manner.layout q Two p manner lines, (q, i, at, outside, refl))
 
 pub plain_is_written : PlainIsWritten
 plain_is_written profile c manner before old now good after plain =
@@ -123,9 +123,9 @@ module _ (profile : Profile) (manner : Manner) (newline : IsNewline manner.newli
   edited (new_section p) now new none after (q, name, at, outside, made) =
       let room = section_room profile q name old (subst (λ x. IsFault profile (new_section x) old None) at none) in
       let put = (section_laid_out q name manner lines old forms good.0 is room outside).header in
-      let edited = header_put_in manner.layout q One (child q name) manner lines in
+      let edited = with_header manner.layout q One (child q name) manner lines in
       subst (AreNew profile (new_section p) old) (sym made)
-      (subst (λ x. AreNew profile (new_section x) old (header_put_in manner.layout q One x manner lines)) (sym at) (record {
+      (subst (λ x. AreNew profile (new_section x) old (with_header manner.layout q One x manner lines)) (sym at) (record {
         forms = header_forms One (child q name) manner.newline lines edited put forms newline;
         profiled = header_of_profile profile One (child q name) manner.newline lines edited put profiled;
         good = (
@@ -137,9 +137,9 @@ module _ (profile : Profile) (manner : Manner) (newline : IsNewline manner.newli
   edited (new_element p) now new none after (q, i, at, outside, made) =
       let room = element_room profile q i old (lines_are_closed lines old good.0 is) (subst (λ x. IsFault profile (new_element x) old None) at none) in
       let put = (element_laid_out q i manner lines old forms good.0 is room outside).header in
-      let edited = header_put_in manner.layout q Two (element q i) manner lines in
+      let edited = with_header manner.layout q Two (element q i) manner lines in
       subst (AreNew profile (new_element p) old) (sym made)
-      (subst (λ x. AreNew profile (new_element x) old (header_put_in manner.layout q Two x manner lines)) (sym at) (record {
+      (subst (λ x. AreNew profile (new_element x) old (with_header manner.layout q Two x manner lines)) (sym at) (record {
         forms = header_forms Two (element q i) manner.newline lines edited put forms newline;
         profiled = header_of_profile profile Two (element q i) manner.newline lines edited put profiled;
         good = (element_rules q i manner.newline lines edited old put good.0 is room outside, element_short q i manner.newline lines edited put good.1 room.short);
@@ -204,9 +204,9 @@ one_edited profile (insert p text) manner old one two (v, value, q, m, at, there
 one_edited profile (rename p to) manner old one two is is' = is ∙ sym is'
 one_edited profile (remove p) manner old one two (there, is) (there', is') = is ∙ sym is'
 one_edited profile (new_section p) manner old one two (q, m, at, outside, is) (r, n, at', outside', is') =
-    let (tables, names) = same_member q r m n (sym at ∙ at') in is ∙ ap (λ t. header_put_in manner.layout t One p manner old) tables ∙ sym is'
+    let (tables, names) = same_member q r m n (sym at ∙ at') in is ∙ ap (λ t. with_header manner.layout t One p manner old) tables ∙ sym is'
 one_edited profile (new_element p) manner old one two (q, i, at, outside, is) (r, j, at', outside', is') =
-    let arrays = (same_from_push q r (Index i) (Index j) (sym at ∙ at')).0 in is ∙ ap (λ t. header_put_in manner.layout t Two p manner old) arrays ∙ sym is'
+    let arrays = (same_from_push q r (Index i) (Index j) (sym at ∙ at')).0 in is ∙ ap (λ t. with_header manner.layout t Two p manner old) arrays ∙ sym is'
 
 pub one_written : OneWritten
 one_written profile c manner before one two (d, spells, new, made, text) (e, spells', new', made', text') =

@@ -40,8 +40,8 @@ use Rattle.toml_editor.proofs.written.RenameFormed.{rename_forms}
 use Rattle.toml_editor.proofs.written.WayComments.{comments}
 use Rattle.toml_working.specs.Setting.{set_lines}
 use Rattle.toml_layout.specs.declared.tree.Brackets.TheVariants.{One, Two}
-use Rattle.toml_working.specs.Written.{HasLine, HasSection, HasValue}
-use Rattle.toml_editor.specs.EditedLines.{IsInNoValue, IsWritten, header_put_in}
+use Rattle.toml_working.specs.Premises.{HasLine, HasSection, HasValue, IsInNoValue}
+use Rattle.toml_editor.specs.EditedLines.{IsWritten, with_header}
 use Rattle.toml_editor.proofs.written.HeaderFacts.{element_room, section_room}
 use Rattle.toml_editor.proofs.written.HeaderLaidOut.{StandsInLayout, element_laid_out, section_laid_out}
 use Rattle.toml_editor.proofs.written.SetKept.{set_short}
@@ -61,8 +61,8 @@ use Rattle.toml_editor.proofs.written.WayWhole.{HasWay, HasWayIf, partners, same
 
 -- whether the edit puts a blank line in before a header line
 abbrev pub puts_blank : Change → Manner → List Line → Bool
-puts_blank (new_section p) manner lines = blank_standing (parent_of p) p One manner manner.may_blank (standing lines)
-puts_blank (new_element p) manner lines = blank_standing (parent_of p) p Two manner manner.may_blank (standing lines)
+puts_blank (new_section p) manner lines = blank_standing (parent_of p) p One manner (standing lines)
+puts_blank (new_element p) manner lines = blank_standing (parent_of p) p Two manner (standing lines)
 puts_blank _ manner lines = false
 
 -- A way to lines that make the text. Where no blank line is put in, a last line of no bytes stays the last.
@@ -95,14 +95,14 @@ always c manner ts lines edited none way = way_weaker (puts_blank c manner lines
 
 -- a header line that is put in without one is one line more
 header_is_one_more : (brackets : Brackets) (q p : Address) (last : Step) (manner : Manner) (lines : List Line) → p ≡ q ++ last ∷ [] → IsInNoValue lines q
-    → StandsInLayout manner.layout q brackets p manner lines → blank_standing (parent_of p) p brackets manner manner.may_blank (standing lines) ≡ false
-    → IsOneMore lines (header_put_in manner.layout q brackets p manner lines)
+    → StandsInLayout manner.layout q brackets p manner lines → blank_standing (parent_of p) p brackets manner (standing lines) ≡ false
+    → IsOneMore lines (with_header manner.layout q brackets p manner lines)
 header_is_one_more brackets q p last manner lines at outside there none = elim there.more [
   | inl one ↦ one
   | inr blank ↦
       absurd (true≢false
       (sym (ap₂ (λ a b. not a && b) outside blank)
-      ∙ ap (λ r. blank_standing r p brackets manner manner.may_blank (standing lines)) (sym (parent_is q last) ∙ ap parent_of (sym at)) ∙ none))
+      ∙ ap (λ r. blank_standing r p brackets manner (standing lines)) (sym (parent_is q last) ∙ ap parent_of (sym at)) ∙ none))
 ]
 
 -- what is to be shown of an edit
@@ -230,9 +230,9 @@ section_goes p profile manner before after old now newline good none is_after (d
     let outside' = subst (λ (x : Doc). IsInNoValue x.lines q) same outside in
     let there = section_laid_out q name manner lines old forms good.good.0 good.facts room outside' in
     let put = there.header in
-    let edited' = header_put_in manner.layout q One (child q name) manner lines in
+    let edited' = with_header manner.layout q One (child q name) manner lines in
     let lines_are : edited ≡ edited' =
-    made ∙ ap (λ (x : Doc). header_put_in manner.layout q One p manner x.lines) same ∙ ap (λ x. header_put_in manner.layout q One x manner lines) at in
+    made ∙ ap (λ (x : Doc). with_header manner.layout q One p manner x.lines) same ∙ ap (λ x. with_header manner.layout q One x manner lines) at in
     record {
       comments_in = [];
       comments_are = refl;
@@ -254,9 +254,9 @@ element_goes p profile manner before after old now newline good none is_after (d
     let outside' = subst (λ (x : Doc). IsInNoValue x.lines q) same outside in
     let there = element_laid_out q i manner lines old forms good.good.0 good.facts room outside' in
     let put = there.header in
-    let edited' = header_put_in manner.layout q Two (element q i) manner lines in
+    let edited' = with_header manner.layout q Two (element q i) manner lines in
     let lines_are : edited ≡ edited' =
-    made ∙ ap (λ (x : Doc). header_put_in manner.layout q Two p manner x.lines) same ∙ ap (λ x. header_put_in manner.layout q Two x manner lines) at in
+    made ∙ ap (λ (x : Doc). with_header manner.layout q Two p manner x.lines) same ∙ ap (λ x. with_header manner.layout q Two x manner lines) at in
     record {
       comments_in = [];
       comments_are = refl;

@@ -170,7 +170,7 @@ none_laid layouts.Follow q p brackets manner may ss is =
     ap (λ b. not (is_some (beside_family q p brackets manner.newline ss)) && (b && wants_blank ss)) is ∙ and-false _
 
 none_standing : (q p : Address) (brackets : Brackets) (manner : Manner) (ss : List Standing) → manner.may_blank ≡ false
-    → blank_standing q p brackets manner manner.may_blank ss ≡ false
+    → blank_standing q p brackets manner ss ≡ false
 none_standing q p brackets manner ss is =
     ap (λ b. not (list_any (holds q) ss) && b) (none_laid manner.layout q p brackets manner manner.may_blank ss is) ∙ and-false _
 

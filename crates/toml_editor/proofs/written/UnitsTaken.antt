@@ -13,7 +13,7 @@ use Rattle.toml_working.specs.Removing.{remove_line, left_behind, empty_line}
 use Rattle.toml_editor.specs.UnitBlocks.{IsBlockTaken, pair_line_units, left_of}
 use Rattle.std.specs.Prelude.{slice_get}
 use Rattle.toml_names.specs.mentions.Rules.{KeepsRules}
-use Rattle.toml_working.specs.Written.{HasLine}
+use Rattle.toml_working.specs.Premises.{HasLine}
 use Rattle.toml_editor.proofs.written.WayZip.{lines_in}
 use Rattle.toml_editor.proofs.written.WayFits.{newlines}
 use Rattle.toml_editor.proofs.written.WayBlock.{lines_append}

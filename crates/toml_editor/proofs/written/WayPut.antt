@@ -15,7 +15,7 @@ use Rattle.toml_checker.specs.Plain.{Site}
 use Rattle.toml_working.specs.Inserting.{insert_in}
 use Rattle.toml_working.specs.Manners.{Manner}
 use Rattle.toml_layout.specs.Spacings.{Spacing}
-use Rattle.toml_working.specs.Written.{HasSection}
+use Rattle.toml_working.specs.Premises.{HasSection}
 use Rattle.toml_working.specs.Together.{GoTogether}
 use Rattle.toml_editor.specs.UnitBlocks.{BeginWithLine}
 use Rattle.toml_editor.proofs.Each.{each_append}

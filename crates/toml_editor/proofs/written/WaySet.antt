@@ -29,7 +29,7 @@ use Rattle.toml_editor.specs.Held.{HoldAt}
 use Rattle.toml_working.specs.Lines.{lines_from}
 use Rattle.toml_editor.specs.RenamedUnits.{IsCarried}
 use Rattle.toml_working.specs.Setting.{set_line, set_lines}
-use Rattle.toml_working.specs.Written.{HasValue}
+use Rattle.toml_working.specs.Premises.{HasValue}
 use Rattle.toml_editor.proofs.written.Clear.{self}
 use Rattle.toml_editor.proofs.written.Pairwise.{Alone, pairs_of_all}
 use Rattle.toml_editor.proofs.written.SetKept.{values_at}

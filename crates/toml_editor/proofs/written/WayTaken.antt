@@ -27,7 +27,7 @@ use Rattle.toml_edits.proofs.Proved.{parted_at_last, sides_are_right}
 use Rattle.toml_editor.specs.ChangedUnits.{is_inner, LiesInValue}
 use Rattle.toml_editor.proofs.written.RemoveNamed.{taken_lines}
 use Rattle.toml_editor.specs.UnitBlocks.{pair_line_units, left_of, BeginWithLine}
-use Rattle.toml_working.specs.Written.{HasLine}
+use Rattle.toml_working.specs.Premises.{HasLine}
 use Rattle.toml_editor.proofs.Each.{each_front, each_back}
 use Rattle.toml_editor.proofs.written.Members.{above_member}
 use Rattle.toml_editor.proofs.written.RemoveKept.{removed_below}

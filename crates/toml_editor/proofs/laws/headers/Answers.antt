@@ -1,11 +1,11 @@
-use Rattle.toml_editor.proofs.Proved.{element_names, element_stands, header_is_taken, section_names, section_stands}
+use Rattle.toml_editor.proofs.Proved.{element_is_laid_out, element_names, header_is_taken, section_is_laid_out, section_names}
 use Rattle.toml_editor.proofs.laws.headers.Goals as goal
 
 pub returns : goal.returns
 returns c = record {
   section_names = section_names;
   element_names = element_names;
-  section_stands = section_stands;
-  element_stands = element_stands;
+  section_laid_out = section_is_laid_out;
+  element_laid_out = element_is_laid_out;
   taken = header_is_taken;
 }

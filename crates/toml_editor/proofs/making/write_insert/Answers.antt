@@ -6,7 +6,7 @@ use Rattle.toml_tree.proofs.Proved.{one_value}
 use Rattle.toml_text.specs.Source.{text_of}
 use Rattle.toml_layout.specs.Opening.{OpensText}
 use Rattle.toml_working.specs.HeldLines.{PutsInValue}
-use Rattle.toml_working.specs.InValues.{IsParent}
+use Rattle.toml_working.specs.Parents.{IsParent}
 use Rattle.toml_working.specs.Putting.{InsertsLines, manner}
 use Rattle.toml_working.specs.Sections.{TreePutsBelow}
 use Rattle.toml_working.specs.Starting.{read_of}
