@@ -24,10 +24,10 @@ use Rattle.toml_editor.proofs.written.CountedArrays.{IsNamedLast, element_unname
 use Rattle.toml_editor.proofs.written.DocumentSections.{line_of, named_next}
 use Rattle.toml_editor.proofs.written.ElementHeaded.{some_named, unheaded_unnamed}
 use Rattle.toml_editor.proofs.written.EmptyAlone.{not_any}
-use Rattle.toml_editor.proofs.written.SectionLeads.{IsNamedAt}
 use Rattle.toml_editor.proofs.written.HeaderPlace.{below_is}
 use Rattle.toml_editor.proofs.written.OneSection.{among_of}
 use Rattle.toml_editor.proofs.written.Pairwise.{Has, any_of_has, has_append_left, has_append_right}
+use Rattle.toml_editor.proofs.written.SectionLeads.{IsNamedAt}
 use Rattle.toml_editor.proofs.written.StandingOrder.{begins_is}
 use Rattle.toml_editor.proofs.written.TablesStay.{under_begins}
 

@@ -26,7 +26,7 @@ use Rattle.toml_editor.proofs.written.Closed.{no_end}
 use Rattle.toml_editor.proofs.written.Counted.{names_last}
 use Rattle.toml_editor.proofs.written.DocumentSections.{begins_longer}
 use Rattle.toml_editor.proofs.written.EmptyAlone.{IsAway, NotThere, lines_away, not_any}
-use Rattle.toml_editor.proofs.written.HeadersAlone.{lower}
+use Rattle.toml_editor.proofs.written.HeadersAlone.{is_less}
 use Rattle.toml_editor.proofs.written.Pairwise.{Has, from_has, has_of_any, has_weaker}
 use Rattle.toml_editor.proofs.written.Plain.{behind, plain_is}
 use Rattle.toml_editor.proofs.written.TablesStay.{begins_under}
@@ -98,7 +98,7 @@ module _ (e array : Address) (i : ℕ) (ends : e ≡ array ++ Index i ∷ []) wh
           let (t, rest, split) = (above_is_above e (below (section xs) (key_names pair.assign.key))).0 above in
           let (more, below_array) = names_last (key_names pair.assign.key) (section xs) array (t ∷ rest) i
           (split ∙ ap (λ x. x ++ t ∷ rest) ends ∙ append_assoc array (Index i ∷ []) (t ∷ rest)) in
-          let shorter = lower (length (section xs)) (length e) low in
+          let shorter = is_less (length (section xs)) (length e) low in
           let inner = ap length below_array ∙ length-append array (Index i ∷ more) in
           let outer = ap length ends ∙ length-append array (Index i ∷ []) in
           absurd (omega (arith, shorter, inner, outer))

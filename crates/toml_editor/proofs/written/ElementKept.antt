@@ -19,12 +19,12 @@ use Rattle.toml_working.specs.Standing.{holds, standing}
 use Rattle.toml_editor.specs.Blocks.{element_block, ends_element}
 use Rattle.toml_editor.proofs.written.Clear.{above_apart}
 use Rattle.toml_editor.proofs.written.ElementNamed.{element_has_names, element_leads, element_named, element_is_put}
+use Rattle.toml_editor.proofs.written.HeaderFacts.{IsNextElement}
 use Rattle.toml_editor.proofs.written.HeaderKept.{AreTables, BothGo, IsHeaderBlock, absent_goes, array_goes, header_block, header_moves, header_rules, header_short}
-use Rattle.toml_editor.proofs.written.SectionLeads.{IsKindAt, fronts_are_tables}
+use Rattle.toml_editor.proofs.written.HeaderNamed.{IsNamedBetween, follows, named_between}
 use Rattle.toml_editor.proofs.written.HeaderPut.{IsHeaderPut}
 use Rattle.toml_editor.proofs.written.Pairwise.{Has}
-use Rattle.toml_editor.proofs.written.HeaderFacts.{IsNextElement}
-use Rattle.toml_editor.proofs.written.HeaderNamed.{IsNamedBetween, follows, named_between}
+use Rattle.toml_editor.proofs.written.SectionLeads.{IsKindAt, fronts_are_tables}
 
 -- the array, or the element
 abbrev IsElementEnd : Address → ℕ → Named → Type 0

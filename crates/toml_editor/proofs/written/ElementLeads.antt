@@ -18,10 +18,10 @@ use Rattle.toml_working.specs.Standing.{holds, is_below, standing, standing_from
 use Rattle.toml_editor.proofs.written.Counted.{AreLast}
 use Rattle.toml_editor.proofs.written.ElementCounted.{count_away, count_is}
 use Rattle.toml_editor.proofs.written.EmptyAlone.{not_any}
-use Rattle.toml_editor.proofs.written.SectionLeads.{name_leads}
-use Rattle.toml_editor.proofs.written.HeaderPut.{IsApart}
 use Rattle.toml_editor.proofs.written.HeaderFacts.{HasSoMany, IsNextElement}
 use Rattle.toml_editor.proofs.written.HeaderNamed.{names_of_element}
+use Rattle.toml_editor.proofs.written.HeaderPut.{IsApart}
+use Rattle.toml_editor.proofs.written.SectionLeads.{name_leads}
 
 -- The key of an element's header leads to it, from where each index of the array's address is that of the last table of its array, and the array
 -- has as many tables as the index says.

@@ -14,9 +14,9 @@ use Rattle.toml_layout.specs.declared.tree.Brackets.TheVariants.{Two}
 use Rattle.toml_working.specs.Heading.{header_expr, key_named}
 use Rattle.toml_working.specs.Headers.{names_of}
 use Rattle.toml_editor.specs.Blocks.{IsPut, element_block, ends_element, named_plain}
+use Rattle.toml_editor.proofs.written.HeaderNamed.{HasNames, follows, header_names_some, names_of_element, put_block, put_names}
 use Rattle.toml_editor.proofs.written.HeaderPut.{IsHeaderPut}
 use Rattle.toml_editor.proofs.written.Plain.{plain_alike}
-use Rattle.toml_editor.proofs.written.HeaderNamed.{HasNames, follows, header_names_some, names_of_element, put_block, put_names}
 
 -- what a key names is the same with the same at its end
 followed_end : (xs : List Named) (e f : Address → List Named) (key : Key) (at : Address) → e (header_end xs at key) ≡ f (header_end xs at key)

@@ -1,10 +1,9 @@
 -- Behind a line of no bytes comes a line.
-use Rattle.std.proofs.Common.{◌≡◌, inr, ◌<◌, ◌+◌, ℕ, zero, suc, Option, Some, None, List, [], ◌∷◌, ◌++◌, length, length-append, refl, ap, ◌∙◌, subst, arith}
+use Rattle.std.proofs.Common.{◌≡◌, inr, ◌<◌, ◌+◌, ℕ, zero, suc, Option, Some, None, List, [], ◌∷◌, ◌++◌, length, refl, ap, ◌∙◌, subst, arith}
 use Rattle.std.specs.Prelude.{slice_get}
 use Rattle.std.proofs.lemmas.Option.{same_Some}
-use Rattle.toml_text.specs.Forms.{IsComment}
-use Rattle.toml_tree.specs.Spells.{EachIs, joined, blank_parts, header_parts, array_header_parts, expr_parts, IsExpr, IsCommentOrNone, AreLines}
-use Rattle.toml_tree.specs.Tree.{Piece, Blank, Header, Expr, BlankLine, KeyValLine, TableLine, ArrayTableLine, Line}
+use Rattle.toml_tree.specs.Spells.{EachIs, joined, blank_parts, expr_parts, IsExpr, IsCommentOrNone, AreLines}
+use Rattle.toml_tree.specs.Tree.{Piece, Expr, BlankLine, KeyValLine, TableLine, ArrayTableLine, Line}
 use Rattle.toml_names.specs.mentions.Keys.{key_names}
 use Rattle.toml_names.specs.mentions.Mentions.{Named, named_by, root, section}
 use Rattle.toml_names.specs.model.Addresses.{below}
@@ -13,7 +12,7 @@ use Rattle.toml_units.specs.Units.{TextUnit, comment_units, inside, line_unit, l
 use Rattle.toml_units.specs.declared.unit.UnitKind.TheVariants as kinds
 use Rattle.toml_editor.specs.UnitBlocks.{BeginWithLine}
 use Rattle.toml_editor.proofs.Each.{each_append}
-use Rattle.toml_editor.proofs.written.LastLines.{no_lines, tail_no_line, both_long, pair_long}
+use Rattle.toml_editor.proofs.written.LastLines.{no_lines, tail_no_line, pair_long, table_long, array_long, comment_long}
 use Rattle.toml_editor.proofs.written.UnitsGone.{value_in}
 use Rattle.toml_editor.proofs.written.UnitsPut.{lines_first}
 
@@ -31,25 +30,6 @@ inner_ends (u ∷ us) vs h ends = ((λ is none. absurd (h.0 is)), inner_ends us 
 none_left : {P : Type 0} (xs : List ℕ) → 0 < length xs → xs ≡ [] → P
 none_left xs some is = let e = ap length is in let f : ⊥ = omega (arith, some, e) in absurd f
 
-header_long : (ws : Piece) (h : Header) (b : Blank) → 0 < length (joined (expr_parts (TableLine ws h b)))
-header_long ws h b = let a = length-append ws.text (joined (header_parts h ++ blank_parts b)) in let e = both_long (header_parts h)
-    (blank_parts b) in omega (arith, a, e)
-
-array_long : (ws : Piece) (h : Header) (b : Blank) → 0 < length (joined (expr_parts (ArrayTableLine ws h b)))
-array_long ws h b = let a = length-append ws.text (joined (array_header_parts h ++ blank_parts b)) in let e = both_long
-    (array_header_parts h) (blank_parts b) in omega (arith, a, e)
-
-comment_long : (ws : Piece) (p : Piece) → IsComment p.text → 0 < length (joined (blank_parts (record { ws = ws; comment = Some p })))
-comment_long ws p is =
-    let a = length-append ws.text (p.text ++ []) in
-    let b = length-append p.text [] in
-    let c = some p.text is in
-    omega (arith, a, b, c)
-  where
-    some : (xs : List ℕ) → IsComment xs → 0 < length xs
-    some [] is = absurd is
-    some (x ∷ xs) is = omega arith
-
 -- ---- all lines
 
 line_ends : (xs : List Named) (e : Expr) (vs : List TextUnit) → IsExpr e → BeginWithLine vs → EmptyEnds vs
@@ -61,7 +41,7 @@ line_ends xs (BlankLine b) vs is first ends = by b.comment is.1
     by None is = ((λ line none. first), ends)
     by (Some p) is = (
       (λ line none. none_left (joined (blank_parts (record { ws = b.ws; comment = Some p })))
-          (comment_long b.ws p is) none),
+          (comment_long b.ws.text (Some p) refl is) none),
       ((λ line none. cc), ends),
     )
 line_ends xs (KeyValLine ws k b) vs is first ends =
@@ -72,7 +52,7 @@ line_ends xs (KeyValLine ws k b) vs is first ends =
           (no_lines at (inside at k.value) (value_in at k.value at (inr refl))) (tail_no_line (Some at) b.comment)) ends,
     )
 line_ends xs (TableLine ws h b) vs is first ends = (
-  (λ line none. none_left (joined (expr_parts (TableLine ws h b))) (header_long ws h b) none),
+  (λ line none. none_left (joined (expr_parts (TableLine ws h b))) (table_long ws h b) none),
   inner_ends (comment_units kinds.TailComment (own_address xs (TableLine ws h b)) b.comment) vs
       (tail_no_line (own_address xs (TableLine ws h b)) b.comment) ends,
 )

@@ -23,15 +23,15 @@ use Rattle.toml_working.specs.Standing.{Standing, holds, is_below, lies_below, s
 use Rattle.toml_working.specs.HeadingFollowed.{with_header_following, header_line_behind, line_behind_family, or_header_at_end}
 use Rattle.toml_editor.proofs.written.BelowPlace.{standing_behind}
 use Rattle.toml_editor.proofs.written.Counted.{AreLast, last_child}
-use Rattle.toml_editor.proofs.written.ElementLeads.{apart_element, next_leads}
 use Rattle.toml_editor.proofs.written.ElementHeaded.{away_unnamed, none_holds, some_named}
+use Rattle.toml_editor.proofs.written.ElementLeads.{apart_element, next_leads}
 use Rattle.toml_editor.proofs.written.EmptyAlone.{IsAway, not_any}
 use Rattle.toml_editor.proofs.written.FollowedPlace.{header_put_following}
-use Rattle.toml_editor.proofs.written.SectionLeads.{name_leads}
+use Rattle.toml_editor.proofs.written.HeaderFacts.{IsNextElement, IsRoom}
 use Rattle.toml_editor.proofs.written.HeaderPut.{IsApart}
 use Rattle.toml_editor.proofs.written.HeaderSplit.{any_back}
 use Rattle.toml_editor.proofs.written.HeaderThere.{StandsWithHeader}
-use Rattle.toml_editor.proofs.written.HeaderFacts.{IsNextElement, IsRoom}
+use Rattle.toml_editor.proofs.written.SectionLeads.{name_leads}
 use Rattle.toml_editor.proofs.written.TablesStay.{under_begins}
 
 -- ---- addresses

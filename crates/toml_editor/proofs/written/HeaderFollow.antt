@@ -43,9 +43,9 @@ use Rattle.toml_editor.specs.PlainTexts.{IsSpreadIn}
 use Rattle.toml_editor.specs.SpelledEdits.{AreSteps, step_spelled}
 use Rattle.toml_editor.specs.Steps.{IsPlain}
 use Rattle.toml_editor.proofs.written.Closed.{no_end}
-use Rattle.toml_editor.proofs.written.HeaderFacts.{element_room, section_room}
 use Rattle.toml_editor.proofs.written.Follow.{follows}
 use Rattle.toml_editor.proofs.written.FollowedFacts.{name_is_no_element}
+use Rattle.toml_editor.proofs.written.HeaderFacts.{element_room, section_room}
 use Rattle.toml_editor.proofs.written.HeaderLaidOut.{StandsInLayout, element_laid_out, section_laid_out}
 use Rattle.toml_editor.proofs.written.InTurn.{header_is_taken}
 use Rattle.toml_editor.proofs.written.StandingOrder.{rules_order}

@@ -17,9 +17,9 @@ use Rattle.toml_working.specs.Headers.{names_of}
 use Rattle.toml_working.specs.Removing.{empty_line}
 use Rattle.toml_editor.proofs.Each.{each_append, each_front, each_back}
 use Rattle.toml_editor.proofs.written.Formed.{line_before}
+use Rattle.toml_editor.proofs.written.HeaderNamed.{HasNames, header_names_some}
 use Rattle.toml_editor.proofs.written.HeaderPut.{IsHeaderPut, ended}
 use Rattle.toml_editor.proofs.written.InsertSpaced.{first_formed}
-use Rattle.toml_editor.proofs.written.HeaderNamed.{HasNames, header_names_some}
 
 -- ---- forms
 

@@ -15,10 +15,10 @@ use Rattle.toml_working.specs.Manners.{Manner}
 use Rattle.toml_working.specs.Standing.{standing}
 use Rattle.toml_working.specs.Premises.{IsInNoValue}
 use Rattle.toml_editor.specs.EditedLines.{with_header}
-use Rattle.toml_editor.proofs.written.PlainFacts.{element_put_plainly, section_put_plainly}
 use Rattle.toml_editor.proofs.written.FollowedFacts.{element_put_following, section_put_following}
-use Rattle.toml_editor.proofs.written.HeaderThere.{StandsWithHeader}
 use Rattle.toml_editor.proofs.written.HeaderFacts.{IsNextElement, IsRoom}
+use Rattle.toml_editor.proofs.written.HeaderThere.{StandsWithHeader}
+use Rattle.toml_editor.proofs.written.PlainFacts.{element_put_plainly, section_put_plainly}
 
 -- The lines with the header line of what is to stand at `p`, right below `q`, and what stands on them, in a layout: they are one more, where no
 -- blank line is written before it.

@@ -14,8 +14,8 @@ use Rattle.toml_layout.specs.declared.tree.Brackets.TheVariants.{One, Two}
 use Rattle.toml_working.specs.Manners.{Manner}
 use Rattle.toml_working.specs.Premises.{IsInNoValue}
 use Rattle.toml_editor.specs.HeaderLaws.{ElementNames, ElementIsLaidOut, SectionNames, SectionIsLaidOut}
-use Rattle.toml_editor.proofs.written.HeaderFacts.{element_room, section_room}
 use Rattle.toml_editor.proofs.written.ElementNamed.{element_is_put}
+use Rattle.toml_editor.proofs.written.HeaderFacts.{element_room, section_room}
 use Rattle.toml_editor.proofs.written.HeaderLaidOut.{StandsInLayout, element_laid_out, section_laid_out}
 use Rattle.toml_editor.proofs.written.SectionNamed.{section_is_put}
 

@@ -18,9 +18,9 @@ use Rattle.toml_working.specs.Removing.{empty_line}
 use Rattle.toml_editor.specs.Blocks.{IsPut, named_plain, passed_from}
 use Rattle.toml_editor.proofs.written.EmptyAlone.{first_under}
 use Rattle.toml_editor.proofs.written.HeaderCounted.{Enters, enters, same_behind}
-use Rattle.toml_editor.proofs.written.SectionLeads.{key_again}
 use Rattle.toml_editor.proofs.written.HeaderPut.{IsHeaderPut, IsPutBefore, ended}
 use Rattle.toml_editor.proofs.written.Plain.{behind, plain_is, plain_parts}
+use Rattle.toml_editor.proofs.written.SectionLeads.{key_again}
 
 -- ---- the key
 

@@ -24,8 +24,9 @@ use Rattle.toml_editor.proofs.written.DocumentSections.{IsLineOf, headed_at, lin
 use Rattle.toml_editor.proofs.written.OneSection.{among_of}
 use Rattle.toml_editor.proofs.written.Pairwise.{Goes, Has, PairsAre, from_has, has_append_left, has_append_right, has_of_any, pairs_of_all}
 
-pub lower : (m n : ℕ) → nat_lt m n ≡ true → m < n
-lower m n is = grind (arith, nat_tests)
+-- what a test of two numbers tells
+pub is_less : (m n : ℕ) → nat_lt m n ≡ true → m < n
+is_less m n is = grind (arith, nat_tests)
 
 -- two mentions of one address that do not go with each other are not both there
 module _ (P Q : Named → Type 0) (one : (e l : Named) → P e → Q l → Goes e l → ⊥) (other : (e l : Named) → Q e → P l → Goes e l → ⊥) (both : (e : Named) → P e → Q e → ⊥) where
@@ -106,7 +107,7 @@ module _ (q : Address) where
           let (long, above) = and_parts (nat_lt (length (section xs)) (length q)) (is_above q (below (section xs) (key_names pair.assign.key))) there in
           subst (λ e. Has IsDotted (named_by xs n e)) (sym is)
           (has_append_left IsDotted (fronts n (section xs) (key_names pair.assign.key)) _
-          (in_fronts n (section xs) (key_names pair.assign.key) ((above_is_above q _).0 above) (lower (length (section xs)) (length q) long)))
+          (in_fronts n (section xs) (key_names pair.assign.key) ((above_is_above q _).0 above) (is_less (length (section xs)) (length q) long)))
 
   dotted_named : (ls : List Line) (xs : List Named) (n : ℕ) → list_any (is_sought_line sought.Dotted q) (standing_from xs n ls) ≡ true → Has IsDotted (named_from xs n ls)
   dotted_named [] xs n there = absurd (true≢false (sym there))

@@ -26,7 +26,7 @@ use Rattle.toml_editor.proofs.written.Counted.{counts_grow, own_counts}
 use Rattle.toml_editor.proofs.written.CountedArrays.{element_unnamed, end_named}
 use Rattle.toml_editor.proofs.written.DocumentSections.{IsLineOf, headed_at, line_of}
 use Rattle.toml_editor.proofs.written.ElementHeaded.{inner_is}
-use Rattle.toml_editor.proofs.written.HeadersAlone.{lower}
+use Rattle.toml_editor.proofs.written.HeadersAlone.{is_less}
 use Rattle.toml_editor.proofs.written.InsertStands.{root_comes_first}
 use Rattle.toml_editor.proofs.written.OneSection.{among_of}
 use Rattle.toml_editor.proofs.written.StandingOrder.{begins_is}
@@ -74,7 +74,7 @@ module _ (e r : Address) (i : ℕ) (e_is : e ≡ element r i) where
           let one = same_from_push r array (Index i) (Index index) (sym e_is ∙ element_is e array index first) in
           let index_is = one.1 in
           let index_same : i ≡ index = cc in
-          (number, (let h = lower index number low in omega (arith, h, index_same)),
+          (number, (let h = is_less index number low in omega (arith, h, index_same)),
             element_is a other number second ∙ ap (λ (x : Address). element x number) (same_is other array same ∙ sym one.0))
 
 -- what a header line has that is found

@@ -23,14 +23,14 @@ use Rattle.toml_working.specs.Standing.{holds, is_below, lies_below, line_stands
 use Rattle.toml_editor.proofs.written.Alike.{section_pair}
 use Rattle.toml_editor.proofs.written.Counted.{names_last}
 use Rattle.toml_editor.proofs.written.DocumentSections.{named_next}
-use Rattle.toml_editor.proofs.written.ElementLeads.{apart_element, next_leads}
 use Rattle.toml_editor.proofs.written.ElementHeaded.{element_headed, inner_is, none_holds}
+use Rattle.toml_editor.proofs.written.ElementLeads.{apart_element, next_leads}
 use Rattle.toml_editor.proofs.written.EmptyAlone.{not_any}
-use Rattle.toml_editor.proofs.written.SectionLeads.{name_leads}
+use Rattle.toml_editor.proofs.written.HeaderFacts.{IsNextElement, IsRoom}
 use Rattle.toml_editor.proofs.written.HeaderPlace.{header_put_plainly}
 use Rattle.toml_editor.proofs.written.HeaderPut.{IsApart}
 use Rattle.toml_editor.proofs.written.HeaderThere.{StandsWithHeader}
-use Rattle.toml_editor.proofs.written.HeaderFacts.{IsNextElement, IsRoom}
+use Rattle.toml_editor.proofs.written.SectionLeads.{name_leads}
 use Rattle.toml_editor.proofs.written.TablesStay.{begins_under, under_begins}
 use Rattle.toml_working.specs.Premises.{IsInNoValue}
 

@@ -18,10 +18,10 @@ use Rattle.toml_working.specs.Standing.{holds, standing}
 use Rattle.toml_editor.specs.Blocks.{section_block}
 use Rattle.toml_editor.proofs.written.Counted.{last_or_earlier}
 use Rattle.toml_editor.proofs.written.HeaderKept.{IsHeaderBlock, absent_goes, header_block, header_moves, header_rules, header_short}
-use Rattle.toml_editor.proofs.written.SectionLeads.{IsKindAt, fronts_are_tables}
+use Rattle.toml_editor.proofs.written.HeaderNamed.{IsNamedBetween, follows, header_names_some, named_between}
 use Rattle.toml_editor.proofs.written.HeaderPut.{IsHeaderPut}
 use Rattle.toml_editor.proofs.written.Pairwise.{Has}
-use Rattle.toml_editor.proofs.written.HeaderNamed.{IsNamedBetween, follows, header_names_some, named_between}
+use Rattle.toml_editor.proofs.written.SectionLeads.{IsKindAt, fronts_are_tables}
 use Rattle.toml_editor.proofs.written.SectionNamed.{section_leads, section_named, section_is_put}
 
 -- the table

@@ -1,5 +1,6 @@
 -- The way of a `remove` by which the line of a value comes to stand for the table right above it.
 use Rattle.std.proofs.Common.{◌≡◌, ◌∙◌, inl, inr, ◌+◌, ℕ, cond, Option, Some, None, List, [], ◌∷◌, ◌++◌, map, length, refl, sym, ap, ap₂, subst, subst₂, true≢false, arith}
+use Rattle.std.proofs.lemmas.List.{map-append}
 use Rattle.std.specs.Prelude.{slice_get}
 use Rattle.toml_tree.specs.Spells.{EachIs}
 use Rattle.toml_tree.specs.Tree.{Piece, Line}
@@ -25,10 +26,6 @@ use Rattle.toml_editor.proofs.written.WayKept.{count_lines, keeps_append, new_ke
 use Rattle.toml_editor.proofs.written.WayTaken.{Gone, IsFar, far_fixed, inner_lost, line_gone, owed, same_fits, tail_lost}
 use Rattle.toml_editor.proofs.written.WayWhole.{HasWay, as_many}
 use Rattle.toml_editor.proofs.written.WayZip.{lines_in}
-
-map_append_old : (xs ys : List TextUnit) → map old (xs ++ ys) ≡ map old xs ++ map old ys
-map_append_old [] ys = refl
-map_append_old (x ∷ xs) ys = ap (λ l. old x ∷ l) (map_append_old xs ys)
 
 tail_lines : (at : Address) (o : Option Piece) → lines_in (comment_units kinds.TailComment (Some at) o) ≡ 0
 tail_lines at None = refl
@@ -112,7 +109,7 @@ module _ (table : Address) (name : List ℕ) (lines edited : List Line) (same : 
     block_goes line a b =
         let lies = value_in p h.value p (inr refl) in (
           line_gone table name before after h.base,
-          subst (Fit (Some (Gone table name before after h.base)) (a + 1) b) (sym (map_append_old inner tail))
+          subst (Fit (Some (Gone table name before after h.base)) (a + 1) b) (sym (map-append old inner tail))
               (fits_append (remove p ∷ []) ([] ∷ []) before after (map old inner) (map old tail) (Some (Gone table name before after h.base)) (a + 1) b
               (inner_lost table name before after h.base inner lies (a + 1) b)
               (subst (λ l. Fit l ((a + 1) + lines_in (olds (map old inner))) (b + lines_in (news (map old inner))) (map old tail)) (sym (after_inner h.base inner lies))

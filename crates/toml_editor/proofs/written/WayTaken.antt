@@ -1,5 +1,6 @@
 -- The way of the `remove` of a line.
 use Rattle.std.proofs.Common.{◌≡◌, ◌⊎◌, inl, inr, ◌<◌, ◌+◌, ℕ, suc, Bool, true, false, cond, ◌&&◌, Option, Some, None, List, [], ◌∷◌, ◌++◌, map, length, refl, sym, ap, ap₂, ◌∙◌, subst, subst₂, true≢false, arith, append-nil}
+use Rattle.std.proofs.lemmas.List.{map-append}
 use Rattle.std.specs.Prelude.{slice_get, option_and_then, option_map, not}
 use Rattle.toml_tree.specs.Spells.{EachIs, AreLines}
 use Rattle.toml_tree.specs.Tree.{Piece, Line}
@@ -354,10 +355,6 @@ module _ (table : Address) (name : List ℕ) (lines : List Line) where
       left_silent [] = refl
       left_silent (u ∷ us) = refl
 
-      map_append_old : (xs ys : List TextUnit) → map old (xs ++ ys) ≡ map old xs ++ map old ys
-      map_append_old [] ys = refl
-      map_append_old (x ∷ xs) ys = ap (λ l. old x ∷ l) (map_append_old xs ys)
-
       after_inner : (own : ℕ) (xs : List TextUnit) → EachIs (LiesInValue gone) xs → line_after (Some (Gone table name (newlines lines) (newlines edited) own)) (map old xs) ≡ Some (Gone table name (newlines lines) (newlines edited) own)
       after_inner own [] lies = refl
       after_inner own (x ∷ xs) lies = ap (λ b. line_after (cond b (Some (site x)) (Some (Gone table name (newlines lines) (newlines edited) own))) (map old xs)) (inner_line x.kind lies.0.0) ∙ after_inner own xs lies.1
@@ -369,7 +366,7 @@ module _ (table : Address) (name : List ℕ) (lines : List Line) where
           let tail = comment_units kinds.TailComment (Some gone) h.comment in
           let lies = value_in gone h.value gone (inr refl) in (
             line_gone table name (newlines lines) (newlines edited) own,
-            subst (Fitting (Some (Gone table name (newlines lines) (newlines edited) own)) (n + 1) n) (sym (map_append_old inner tail))
+            subst (Fitting (Some (Gone table name (newlines lines) (newlines edited) own)) (n + 1) n) (sym (map-append old inner tail))
                 (fits_append (remove gone ∷ []) ([] ∷ []) (newlines lines) (newlines edited) (map old inner) (map old tail) (Some (Gone table name (newlines lines) (newlines edited) own)) (n + 1) n
                 (inner_lost table name (newlines lines) (newlines edited) own inner lies (n + 1) n)
                 (subst (λ l. Fitting l ((n + 1) + lines_in (olds (map old inner))) (n + lines_in (news (map old inner))) (map old tail)) (sym (after_inner own inner lies))
