@@ -5,7 +5,7 @@ pub use Rattle.toml_editor.proofs.written.SetFormed.{set_forms}
 pub use Rattle.toml_editor.proofs.written.InsertNamed.{insert_names}
 pub use Rattle.toml_editor.proofs.written.InsertKept.{insert_rules, insert_short, insert_data}
 pub use Rattle.toml_editor.proofs.written.InsertFormed.{insert_forms}
-pub use Rattle.toml_editor.proofs.written.HeaderLaws.{section_names, element_names, section_is_laid_out, element_is_laid_out}
+pub use Rattle.toml_editor.proofs.written.HeaderLaws.{section_names, element_names, section_is_laid_out, element_is_laid_out, section_units, element_units}
 pub use Rattle.toml_editor.proofs.written.InTurn.{header_is_taken}
 pub use Rattle.toml_editor.proofs.written.RemovedEither.{empty_names, empty_units, remove_data, remove_good, remove_keeps_lines, remove_names, remove_units}
 pub use Rattle.toml_editor.proofs.written.RemoveKept.{remove_forms}

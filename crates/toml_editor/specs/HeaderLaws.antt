@@ -9,6 +9,7 @@ use Rattle.toml_names.specs.model.Addresses.{Address, child, element}
 use Rattle.toml_names.specs.model.Data.{IsDataOf, Kinds}
 use Rattle.toml_edits.specs.Edits.{new_element, new_section}
 use Rattle.toml_edits.specs.Faults.{IsFault}
+use Rattle.toml_units.specs.Units.{units}
 use Rattle.toml_layout.specs.declared.layout.Layout.{Layout}
 use Rattle.toml_layout.specs.declared.tree.Brackets.TheVariants.{One, Two}
 use Rattle.toml_working.specs.HeaderStanding.{AreReadyForHeader, header_laid_out}
@@ -17,6 +18,7 @@ use Rattle.toml_working.specs.Standing.{standing}
 use Rattle.toml_editor.specs.Blocks.{IsPut, element_block, named_plain, section_block}
 use Rattle.toml_working.specs.Premises.{IsInNoValue}
 use Rattle.toml_editor.specs.EditedLines.{with_header}
+use Rattle.toml_editor.specs.UnitBlocks.{IsHeaderUnitPut}
 
 -- Laws: the lines after a `section` without a fault, of a table that stands in no value, name what they named, and what the new header names;
 abbrev pub SectionNames : Type 0
@@ -43,6 +45,18 @@ ElementIsLaidOut = (profile : Profile) (q : Address) (i : ℕ) (manner : Manner)
     → AreLines lines → KeepsRules (named lines) → IsDataOf (named lines) kinds → IsFault profile (new_element (element q i)) kinds None → IsInNoValue lines q
     → standing (with_header manner.layout q Two (element q i) manner lines)
     ≡ header_laid_out manner.layout q (element q i) Two manner (standing lines)
+
+-- Laws: the units of the lines after such a `section` are those of before, and those of its header line, which has some whitespace,
+abbrev pub SectionUnits : Type 0
+SectionUnits = (profile : Profile) (q : Address) (name : List ℕ) (manner : Manner) (lines : List Line) (kinds : Kinds)
+    → AreLines lines → KeepsRules (named lines) → IsDataOf (named lines) kinds → IsFault profile (new_section (child q name)) kinds None → IsInNoValue lines q
+    → (ws : List ℕ) × IsHeaderUnitPut One (child q name) ws (units lines) (units (with_header manner.layout q One (child q name) manner lines))
+
+-- and so are those after such an `element`.
+abbrev pub ElementUnits : Type 0
+ElementUnits = (profile : Profile) (q : Address) (i : ℕ) (manner : Manner) (lines : List Line) (kinds : Kinds)
+    → AreLines lines → KeepsRules (named lines) → IsDataOf (named lines) kinds → IsFault profile (new_element (element q i)) kinds None → IsInNoValue lines q
+    → (ws : List ℕ) × IsHeaderUnitPut Two (element q i) ws (units lines) (units (with_header manner.layout q Two (element q i) manner lines))
 
 -- Law: of each document the working tree takes a header line: there are lines, the root is no line's value, and the header lines of the
 -- innermost element stand in turn.

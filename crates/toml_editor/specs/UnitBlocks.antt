@@ -1,6 +1,6 @@
--- Laws of the units after the `insert` and the `remove` of a line: one block more, or one less, between two lines. The newline of a line is
+-- Units of lines that are put in and taken out: one block more, or one less, between two lines. The newline of a line is
 -- in no unit. All other units are as they were, with their pieces: a piece of edited lines has the place that it had before.
-use Rattle.std.specs.Prelude.{◌≡◌, ◌<◌, ℕ, List, [], ◌∷◌, ◌++◌, Option, Some, None, length}
+use Rattle.std.specs.Prelude.{◌≡◌, ◌⊎◌, ◌<◌, ℕ, List, [], ◌∷◌, ◌++◌, Option, Some, None, length}
 use Rattle.std.specs.List.{join_by}
 use Rattle.toml_scalar.specs.Spelling.{spelled}
 use Rattle.toml_tree.specs.Bare.{fresh}
@@ -69,6 +69,13 @@ pair_text s name v = s.ws ++ (spelled name ++ (s.before_equals ++ 0x3D ∷ (s.af
 -- the bytes of a new header line with this whitespace, but for its newline: the names, spelled, with `.` between them, in the brackets
 abbrev pub header_text : Brackets → List ℕ → Address → List ℕ
 header_text brackets ws p = ws ++ (opening_brackets brackets ++ (join_by spelled (0x2E ∷ []) (names_of p) ++ closing_brackets brackets))
+
+-- units of before, with those of a new header line at the address, which has this whitespace; behind a blank line that is written, also one of a
+-- last line of no bytes
+abbrev pub IsHeaderUnitPut : Brackets → Address → List ℕ → List TextUnit → List TextUnit → Type 0
+IsHeaderUnitPut brackets p ws old new =
+    let line = header_line_units (fresh (header_text brackets ws p)) p in
+    IsBlockPut old line new ⊎ IsBlockPut old (line ++ line_of_nothing ∷ []) new
 
 -- Law: the units of the new lines are those of the old ones and those of the new line, which has some whitespace, in layout `Plain` that of
 -- ` = `.

@@ -18,9 +18,7 @@ use toml_edits::{Draft, Edit, EditFault, place};
 use toml_layout::{Brackets, open_value};
 use toml_names::{Address, Datum, LineNames, Name, Step};
 use toml_tree::Profile;
-use toml_working::{
-    Above, Before, NewHeader, Tree, innermost_element, is_flat, parent_of,
-};
+use toml_working::{Above, Before, NewHeader, Tree, innermost_element, is_flat, parent_of};
 
 /// What was read of the document, in the profile, by which the edits are made on its working tree.
 #[derive(Clone, Copy)]

@@ -140,8 +140,8 @@ module _ (xs ys : List Named) (n m : ℕ) (ls : List Line) where
         own = header_owned xs ys e is same;
         base = base;
         sections = inl (
-          ap (λ ms. section (xs ++ ms)) names ∙ section_from-append xs new [] ∙ header_section ys n e is (section xs) (section ys)
-              ∙ sym (section_from-append ys new []) ∙ numbers.sections);
+            ap (λ ms. section (xs ++ ms)) names ∙ section_from-append xs new [] ∙ header_section ys n e is (section xs) (section ys)
+            ∙ sym (section_from-append ys new []) ∙ numbers.sections);
         counts = λ at counted.
             ap (λ ms. count_tables (xs ++ ms) at) names ∙ count-append xs new at ∙ ap (λ k. k + count_tables new at) counted ∙ sym (count-append ys new at)
             ∙ numbers.counts at;

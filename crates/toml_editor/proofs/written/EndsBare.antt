@@ -273,7 +273,7 @@ expr_unended : (e : Expr) → IsExpr e → IsUnended (joined (expr_parts e))
 expr_unended (BlankLine b) is = blank_unended b is
 expr_unended (KeyValLine ws k b) is = append_unended ws.text (joined (keyval_parts k ++ blank_parts b)) (ws_unended ws.text is.0)
     (both_unended (keyval_parts k) (blank_parts b)
-        (both_unended (assign_parts k.assign) (value_parts k.value) (assign_unended k.assign is.1.0.2) (value_unended k.value is.1.1)) (blank_unended b is.2))
+    (both_unended (assign_parts k.assign) (value_parts k.value) (assign_unended k.assign is.1.0.2) (value_unended k.value is.1.1)) (blank_unended b is.2))
 expr_unended (TableLine ws h b) is = append_unended ws.text (joined (header_parts h ++ blank_parts b)) (ws_unended ws.text is.0)
     (both_unended (header_parts h) (blank_parts b) (shut_unended (header_parts h) (header_shut h)) (blank_unended b is.2))
 expr_unended (ArrayTableLine ws h b) is = append_unended ws.text (joined (array_header_parts h ++ blank_parts b)) (ws_unended ws.text is.0)
@@ -314,8 +314,10 @@ bare_lines m (n ∷ ls) is none = absurd (by m.newline.text is.1 (front_none m.n
   where
     front : joined (line_parts m) ≡ []
     front = front_none (joined (line_parts m)) (joined (lines_parts (n ∷ ls))) (sym (before_text m n ls) ∙ none)
+
     behind : m.newline.text ++ [] ≡ []
     behind = back_none (joined (expr_parts m.expr)) (m.newline.text ++ []) (sym (parts_join (expr_parts m.expr) (piece m.newline ∷ [])) ∙ front)
+
     by : (bs : List ℕ) → IsNewline bs → bs ≡ [] → ⊥
     by bs (inl h) e = cc
     by bs (inr h) e = cc

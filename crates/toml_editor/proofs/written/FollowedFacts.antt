@@ -33,6 +33,7 @@ use Rattle.toml_editor.proofs.written.HeaderSplit.{any_back}
 use Rattle.toml_editor.proofs.written.HeaderThere.{StandsWithHeader}
 use Rattle.toml_editor.proofs.written.SectionLeads.{name_leads}
 use Rattle.toml_editor.proofs.written.TablesStay.{under_begins}
+use Rattle.toml_editor.proofs.written.TablesStay.{parent_is}
 
 -- ---- addresses
 
@@ -53,11 +54,6 @@ index_is_element (s ∷ t ∷ q) i = by (element_of (element (t ∷ q) i)) (inde
     by : (o : Option (Address × ℕ)) → is_some o ≡ true → is_some (option_map behind o) ≡ true
     by None is = is
     by (Some e) is = refl
-
-above_child : (r : Address) (n : List ℕ) → parent_of (child r n) ≡ r
-above_child [] n = refl
-above_child (s ∷ []) n = refl
-above_child (s ∷ t ∷ r) n = ap (λ a. s ∷ a) (above_child (t ∷ r) n)
 
 -- ---- a line stands there
 
@@ -175,7 +171,7 @@ element_put_following q i style may lines kinds forms keeps facts next outside =
         (λ front back split none. apart_element q i front back none) (blank_by q is))
     by false none =
         let is : family q p (standing lines) ≡ r =
-        cond-true _ _ _ (ap₂ (λ a b. a && not b) (index_is_element q i) none) ∙ ap parent_of q_is ∙ above_child r n in
+        cond-true _ _ _ (ap₂ (λ a b. a && not b) (index_is_element q i) none) ∙ ap parent_of q_is ∙ parent_is r (Name n) in
         put_by r is
         (header_put_following Two p q r style may lines Blank forms (λ xs last. subst (AreLast xs) (sym q_is) (last_child xs r n last)) leads_there
         (line_below lines kinds facts r (subst IsSome (sym next.table.3) refl)

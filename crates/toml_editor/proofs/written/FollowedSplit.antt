@@ -182,7 +182,7 @@ module _ (h : List Standing → Line) (new : List Standing → Standing) where
           put_none = cond-true _ _ _ later ∙ ap (option_map (λ r. x.0 ∷ r)) none.put_none;
           stand_none = cond-true _ _ _ later ∙ ap (option_map (λ r. x.1 ∷ r)) none.stand_none;
           last = λ is. (let it = none.last later in
-            record { before = x ∷ it.before; line = it.line; between = it.between; is = ap (λ r. x ∷ r) it.is; below = it.below; headless = it.headless });
+              record { before = x ∷ it.before; line = it.line; between = it.between; is = ap (λ r. x ∷ r) it.is; below = it.below; headless = it.headless });
         })
         by true later b here (inr it) there =
             let rest = stand_of it.before ++ it.line.1 ∷ stand_of it.between in

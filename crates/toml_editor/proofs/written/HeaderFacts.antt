@@ -106,10 +106,13 @@ module _ (profile : Profile) (q : Address) (i : ℕ) (kinds : Kinds) (closed : I
       by None e h = inl (e, first i h)
       by (Some a_table) e h = absurd (h (λ w. (let x = w.0 in cc)))
       by (Some (a_scalar v)) e h = absurd (h (λ w. (let x = w.0 in cc)))
-      by (Some an_array) e h = inr (e, λ j low. elim (some_or (kinds (element q j))) [
-        | inl some ↦ some
-        | inr absent ↦ absurd (h (λ w. (let x = subst IsSome absent (w.1 j low) in true≢false (sym x))))
-      ])
+      by (Some an_array) e h = inr (
+        e,
+        λ j low. elim (some_or (kinds (element q j))) [
+          | inl some ↦ some
+          | inr absent ↦ absurd (h (λ w. (let x = subst IsSome absent (w.1 j low) in true≢false (sym x))))
+        ],
+      )
 
   is_free : kinds (element q i) ≡ None
   is_free = by (kinds q) refl (kinds (element q i)) refl

@@ -16,7 +16,7 @@ use Rattle.toml_units.specs.Units.{line_base}
 use Rattle.toml_layout.specs.Beginnings.{begins}
 use Rattle.toml_layout.specs.declared.layout.Layout.TheVariants as layouts
 use Rattle.toml_working.specs.HeaderStanding.{ElementIn}
-use Rattle.toml_working.specs.Headers.{ElementIsLaidOut, StandInTurn, begins_later, element_of, has_below, innermost, is_later, later_in}
+use Rattle.toml_working.specs.Headers.{ElementStands, StandInTurn, begins_later, element_of, has_below, innermost, is_later, later_in}
 use Rattle.toml_working.specs.Seeing.{heads, heads_below, is_sought_line}
 use Rattle.toml_working.specs.Standing.{Standing, standing}
 use Rattle.toml_working.specs.declared.lines.Sought.TheVariants as sought
@@ -73,9 +73,11 @@ module _ (e r : Address) (i : ℕ) (e_is : e ≡ element r i) where
           let (low, same) = and_parts (nat_lt index number) (same_address other array) later in
           let one = same_from_push r array (Index i) (Index index) (sym e_is ∙ element_is e array index first) in
           let index_is = one.1 in
-          let index_same : i ≡ index = cc in
-          (number, (let h = is_less index number low in omega (arith, h, index_same)),
-            element_is a other number second ∙ ap (λ (x : Address). element x number) (same_is other array same ∙ sym one.0))
+          let index_same : i ≡ index = cc in (
+            number,
+            (let h = is_less index number low in omega (arith, h, index_same)),
+            element_is a other number second ∙ ap (λ (x : Address). element x number) (same_is other array same ∙ sym one.0),
+          )
 
 -- what a header line has that is found
 below_at : (e : Address) (base : Option ℕ) (own : Option Address) → heads_below e base own ≡ true → (a : Address) × (own ≡ Some a) × (begins e a ≡ true)
@@ -194,7 +196,7 @@ header_is_taken layout q lines are keeps =
     let rooted = root_comes_first lines are in
     record { some = rooted.some; root = rooted.none; element = by layout }
   where
-    inner : (o : Option Address) → innermost q ≡ o → ElementIsLaidOut o (standing lines)
+    inner : (o : Option Address) → innermost q ≡ o → ElementStands o (standing lines)
     inner None is = tt
     inner (Some e) is = let it = inner_is q e is in stand_in_turn lines e it.array it.index it.is
 

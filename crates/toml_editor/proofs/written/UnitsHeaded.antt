@@ -153,9 +153,11 @@ module _ (brackets : Brackets) (p : Address) (style ws : List ℕ) where
       (header_counted brackets p ws xs n (standing_from xs n (m ∷ ms)) there.0
       (subst (AreApart brackets p) (stand_alike (m ∷ ms) xs xs 0 n (alike_self xs)) there.1)))))
       front (root ∷ []) 0
-      (subst (λ ls. (own_address (named ls) header ≡ Some p) × AreApart brackets p (standing_from (named ls) 0 (m ∷ ms))) (sym (append-nil front))
-      (leads, subst (AreApart brackets p) (stand_alike (m ∷ ms) (named front) (named front) (length front) 0 (alike_self (named front)))
-      (back_apart brackets p front (m ∷ ms) apart))))
+      (subst (λ ls. (own_address (named ls) header ≡ Some p) × AreApart brackets p (standing_from (named ls) 0 (m ∷ ms))) (sym (append-nil front)) (
+        leads,
+        subst (AreApart brackets p) (stand_alike (m ∷ ms) (named front) (named front) (length front) 0 (alike_self (named front)))
+            (back_apart brackets p front (m ∷ ms) apart),
+      )))
 
   well_last : (front back old new : List Line) → IsPutLast brackets p style ws front back old new → Leads front → Alone old new
   well_last front back old new put leads =

@@ -163,16 +163,16 @@ and_not true false is = (refl, refl)
 and_not true true is = cc
 and_not false b is = cc
 
-none_laid : (layout : Layout) (q p : Address) (brackets : Brackets) (manner : Manner) (may : Bool) (ss : List Standing) → may ≡ false
-    → blank_laid_out layout q p brackets manner may ss ≡ false
-none_laid layouts.Plain q p brackets manner may ss is = refl
-none_laid layouts.Follow q p brackets manner may ss is =
+none_laid : (layout : Layout) (q p : Address) (brackets : Brackets) (manner : Manner) (ss : List Standing) → manner.may_blank ≡ false
+    → blank_laid_out layout q p brackets manner ss ≡ false
+none_laid layouts.Plain q p brackets manner ss is = refl
+none_laid layouts.Follow q p brackets manner ss is =
     ap (λ b. not (is_some (beside_family q p brackets manner.newline ss)) && (b && wants_blank ss)) is ∙ and-false _
 
 none_standing : (q p : Address) (brackets : Brackets) (manner : Manner) (ss : List Standing) → manner.may_blank ≡ false
     → blank_standing q p brackets manner ss ≡ false
 none_standing q p brackets manner ss is =
-    ap (λ b. not (list_any (holds q) ss) && b) (none_laid manner.layout q p brackets manner manner.may_blank ss is) ∙ and-false _
+    ap (λ b. not (list_any (holds q) ss) && b) (none_laid manner.layout q p brackets manner ss is) ∙ and-false _
 
 after_may : (c : Change) (manner : Manner) (lines : List Line) → (manner_after c manner lines).may_blank ≡ true
     → (manner.may_blank ≡ true) × (puts_blank c manner lines ≡ false)
