@@ -11,7 +11,6 @@ use Rattle.toml_tree.specs.declared.profile.Profile.{Profile}
 use Rattle.toml_tree.proofs.Proved.{one_tree}
 use Rattle.toml_names.specs.mentions.Mentions.{named}
 use Rattle.toml_names.specs.model.Data.{IsDataOf, Kinds}
-use Rattle.toml_names.specs.model.Places.{place}
 use Rattle.toml_names.proofs.Proved.{one_data}
 use Rattle.toml_edits.specs.declared.fault.EditFault.{EditFault}
 use Rattle.toml_edits.specs.After.{IsAfter}

@@ -8,8 +8,7 @@ use Rattle.toml_tree.specs.declared.profile.Profile.{Profile}
 use Rattle.toml_names.specs.model.Addresses.{Address, element}
 use Rattle.toml_names.specs.model.Data.{Kinds}
 use Rattle.toml_names.specs.model.Documents.{IsDocumentIn}
-use Rattle.toml_names.specs.model.Places.{place}
-use Rattle.toml_names.specs.mentions.Mentions.{a_table, an_array, named}
+use Rattle.toml_names.specs.mentions.Mentions.{a_table, an_array}
 use Rattle.toml_names.specs.reader.Names.{RefusesNames}
 use Rattle.toml_edits.specs.Edits.{Change, set, insert, remove, new_section, new_element}
 use Rattle.toml_edits.specs.Faults.{IsFault}

@@ -136,7 +136,7 @@ abbrev pub IsNeitherOn : Profile → Read → Change → Tree → Type 0
 IsNeitherOn profile read c tree = (text : List ℕ) (kinds now : Kinds) → IsAt profile read tree text kinds
     → IsFault profile c kinds None → IsAfter profile c kinds now → ¬ IsPlainOrHeld profile text c
 
--- and the text has none
+-- by the data the place of the edit may be spread, and in the text it is
 abbrev pub IsSpreadOn : Profile → List ℕ → Change → Kinds → Type 0
 IsSpreadOn profile text c kinds = MayBeSpread c kinds × IsSpreadIn profile text c
 

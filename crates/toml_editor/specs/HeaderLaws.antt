@@ -20,13 +20,13 @@ use Rattle.toml_working.specs.Premises.{IsInNoValue}
 use Rattle.toml_editor.specs.EditedLines.{with_header}
 use Rattle.toml_editor.specs.UnitBlocks.{IsHeaderUnitPut}
 
--- Laws: the lines after a `section` without a fault, of a table that stands in no value, name what they named, and what the new header names;
+-- Laws: the lines after a `section` without a fault, above which no line's value stands, name what they named, and what the new header names;
 abbrev pub SectionNames : Type 0
 SectionNames = (profile : Profile) (q : Address) (name : List ℕ) (manner : Manner) (lines : List Line) (kinds : Kinds)
     → AreLines lines → KeepsRules (named lines) → IsDataOf (named lines) kinds → IsFault profile (new_section (child q name)) kinds None → IsInNoValue lines q
     → IsPut (named_plain lines) (section_block (child q name)) (named_plain (with_header manner.layout q One (child q name) manner lines))
 
--- so do those after an `element`, of an array that stands in no value.
+-- so do those after such an `element`.
 abbrev pub ElementNames : Type 0
 ElementNames = (profile : Profile) (q : Address) (i : ℕ) (manner : Manner) (lines : List Line) (kinds : Kinds)
     → AreLines lines → KeepsRules (named lines) → IsDataOf (named lines) kinds → IsFault profile (new_element (element q i)) kinds None → IsInNoValue lines q
@@ -46,7 +46,7 @@ ElementIsLaidOut = (profile : Profile) (q : Address) (i : ℕ) (manner : Manner)
     → standing (with_header manner.layout q Two (element q i) manner lines)
     ≡ header_laid_out manner.layout q (element q i) Two manner (standing lines)
 
--- Laws: the units of the lines after such a `section` are those of before, and those of its header line, which has some whitespace,
+-- Laws: the units of the lines after such a `section` are those of before and its header line's, which begins with some text,
 abbrev pub SectionUnits : Type 0
 SectionUnits = (profile : Profile) (q : Address) (name : List ℕ) (manner : Manner) (lines : List Line) (kinds : Kinds)
     → AreLines lines → KeepsRules (named lines) → IsDataOf (named lines) kinds → IsFault profile (new_section (child q name)) kinds None → IsInNoValue lines q
@@ -58,7 +58,7 @@ ElementUnits = (profile : Profile) (q : Address) (i : ℕ) (manner : Manner) (li
     → AreLines lines → KeepsRules (named lines) → IsDataOf (named lines) kinds → IsFault profile (new_element (element q i)) kinds None → IsInNoValue lines q
     → (ws : List ℕ) × IsHeaderUnitPut Two (element q i) ws (units lines) (units (with_header manner.layout q Two (element q i) manner lines))
 
--- Law: of each document the working tree takes a header line: there are lines, the root is no line's value, and the header lines of the
+-- Law: the lines of each document are ready for a header line: there are lines, the root is no line's value, and the header lines of the
 -- innermost element stand in turn.
-abbrev pub HeaderIsTaken : Type 0
-HeaderIsTaken = (layout : Layout) (q : Address) (lines : List Line) → AreLines lines → KeepsRules (named lines) → AreReadyForHeader layout q (standing lines)
+abbrev pub DocumentsAreReady : Type 0
+DocumentsAreReady = (layout : Layout) (q : Address) (lines : List Line) → AreLines lines → KeepsRules (named lines) → AreReadyForHeader layout q (standing lines)

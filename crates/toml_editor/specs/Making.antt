@@ -2,7 +2,6 @@
 use Rattle.std.specs.Prelude.{◌≡◌, ◌⊎◌, ℕ, List, [], Option, Some}
 use Rattle.toml_tree.specs.declared.profile.Profile.{Profile}
 use Rattle.toml_names.specs.declared.model.datum.Datum.{Datum}
-use Rattle.toml_names.specs.model.Addresses.{Address, element}
 use Rattle.toml_names.specs.model.Data.{Kinds, kind_in}
 use Rattle.toml_names.specs.mentions.Mentions.{a_table, an_array}
 use Rattle.toml_names.specs.reader.LineNames.{StandFor}
@@ -11,7 +10,7 @@ use Rattle.toml_working.specs.Starting.{read_of}
 use Rattle.toml_edits.specs.declared.draft.Draft.{Draft}
 use Rattle.toml_edits.specs.Applied.{IsApplied}
 use Rattle.toml_edits.specs.Drafts.{drafted}
-use Rattle.toml_edits.specs.Edits.{Change, insert, new_element, new_section, set}
+use Rattle.toml_edits.specs.Edits.{Change}
 use Rattle.toml_edits.specs.Faults.{IsFault}
 use Rattle.toml_editor.specs.Edited.{SoFar, OfDefined, TakesLastElement, MayBeSpread}
 use Rattle.toml_editor.specs.declared.fault.EditorFault.{EditorFault}
@@ -35,7 +34,8 @@ TellsRow profile i c kinds (Edit j fault) = (j ≡ i) × IsFault profile c kinds
 TellsRow profile i c kinds NoMemory = Unit {0}
 TellsRow profile i c kinds _ = ⊥
 
--- the edit with this number has such a fault on the data
+-- the fault is of the edit with this number, and on the data it is so: not defined; or defined, and its place may be spread, or it takes a last
+-- element
 abbrev pub TellsOne : Profile → ℕ → Change → Kinds → EditorFault → Type 0
 TellsOne profile i c kinds (Edit j fault) = (j ≡ i) × IsFault profile c kinds (Some fault)
 TellsOne profile i c kinds (Spread j) = (j ≡ i) × OfDefined profile MayBeSpread c kinds

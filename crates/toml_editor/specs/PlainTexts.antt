@@ -35,7 +35,7 @@ abbrev pub IsPlainOn : Profile → List ℕ → Change → Type 0
 IsPlainOn profile text c = (d : Doc) → SpellsIn profile d text → IsPlain d.lines c
 
 -- The text has no one place for the edit. A `set`: no single value stands at its address, as where headers, dotted keys or lines of a table
--- make what is there. A `section` and an `element`: right above stands a line's value, or what a line's value holds.
+-- make what is there. A `section` and an `element`: a line's value stands above the address.
 abbrev pub IsSpreadIn : Profile → List ℕ → Change → Type 0
 IsSpreadIn profile text (set p value) = (d : Doc) → SpellsIn profile d text → ¬ HasValue d.lines p
 IsSpreadIn profile text (new_section p) = (q : Address) × (s : Step) × (p ≡ q ++ s ∷ []) × ((d : Doc) → SpellsIn profile d text → ¬ IsInNoValue d.lines q)

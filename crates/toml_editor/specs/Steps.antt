@@ -32,7 +32,7 @@ GoodTextsAreDocuments = (profile : Profile) (text : List ℕ) → IsText text
     → ((kinds : Kinds) × IsGoodText profile text kinds) ↔ IsDocumentIn profile text
 
 -- the edit is plain on these lines: a `set` where a value stands, a `rename`, an `insert` of a name at the root or in a table that has a
--- header, a `remove` of a value of a line, a `section` in a table that stands in no value, an `element` of an array that stands in none
+-- header, a `remove` of a value of a line, a `section` or an `element` above which no line's value stands
 abbrev pub IsPlain : List Line → Change → Type 0
 IsPlain lines (set p text) = HasValue lines p
 IsPlain lines (insert p text) = (q : Address) × (name : List ℕ) × (p ≡ child q name) × HasSection lines q

@@ -70,8 +70,8 @@ pair_text s name v = s.ws ++ (spelled name ++ (s.before_equals ++ 0x3D ∷ (s.af
 abbrev pub header_text : Brackets → List ℕ → Address → List ℕ
 header_text brackets ws p = ws ++ (opening_brackets brackets ++ (join_by spelled (0x2E ∷ []) (names_of p) ++ closing_brackets brackets))
 
--- units of before, with those of a new header line at the address, which has this whitespace; behind a blank line that is written, also one of a
--- last line of no bytes
+-- units of before, with those of a new header line at the address, which begins with this text; or also one of a last line of no bytes behind
+-- it, as where a blank line is written
 abbrev pub IsHeaderUnitPut : Brackets → Address → List ℕ → List TextUnit → List TextUnit → Type 0
 IsHeaderUnitPut brackets p ws old new =
     let line = header_line_units (fresh (header_text brackets ws p)) p in

@@ -6,7 +6,7 @@ ghost use Rattle.toml_editor.specs.CertifiedLists.{PartnersCertify, OuterAreName
 ghost use Rattle.toml_editor.specs.ChangedUnits.{SetUnits};
 ghost use Rattle.toml_editor.specs.PlainAnswers.{FirstFaultIsAnswered, FirstSpreadIsAnswered, LongIsAnswered, PlainIsAnswered};
 ghost use Rattle.toml_editor.specs.LastTexts.{OneChange};
-ghost use Rattle.toml_editor.specs.HeaderLaws.{ElementIsLaidOut, ElementNames, ElementUnits, HeaderIsTaken, SectionIsLaidOut, SectionNames, SectionUnits};
+ghost use Rattle.toml_editor.specs.HeaderLaws.{ElementIsLaidOut, ElementNames, ElementUnits, DocumentsAreReady, SectionIsLaidOut, SectionNames, SectionUnits};
 ghost use Rattle.toml_editor.specs.InsertLaws.{InsertNames, InsertRules, InsertShort, InsertData, InsertForms, InsertOfProfile, InsertKeepsLines};
 ghost use Rattle.toml_editor.specs.RemoveLaws.{EmptyNames, RemoveNames, RemoveGood, RemoveData, RemoveForms, RemoveOfProfile, RemoveKeepsLines};
 ghost use Rattle.toml_editor.specs.RenameLaws.{RenameNames, RenameGood, RenameData, RenameForms, RenameOfProfile, RenameKeepsLine};
@@ -43,19 +43,19 @@ pub fn inserts()
     ensures forms { InsertForms }
 {}
 
-/// After a `section` without a fault, of a table that stands in no value, the lines name what they named, and what the new header
-/// names; so do they after an `element`, of an array that stands in none. By what finds them they are what the working tree makes of
-/// the lines before. It takes a header line of each document.
+/// After a `section` or an `element` without a fault, above which no line's value stands, the lines name what they named, and what the
+/// new header names. By what finds them they are what the working tree makes of the lines before. The lines of each document are
+/// ready for a header line.
 pub fn headers()
     ensures section_names { SectionNames }
     ensures element_names { ElementNames }
     ensures section_laid_out { SectionIsLaidOut }
     ensures element_laid_out { ElementIsLaidOut }
-    ensures taken { HeaderIsTaken }
+    ensures ready { DocumentsAreReady }
 {}
 
-/// The units after such a `section` or `element` are those of before, and its header line's; behind a blank line that is written, also
-/// one of a last line of no bytes.
+/// The units after such a `section` or `element` are those of before and its header line's, or also one of a last line of no bytes, as
+/// where a blank line is written.
 pub fn header_units()
     ensures section { SectionUnits }
     ensures element { ElementUnits }
@@ -88,7 +88,8 @@ pub fn renamed_headers()
     ensures element { RenameAlongElement }
 {}
 
-/// Edited lines are of each profile of which the lines were before and the new value, if there is one.
+/// Lines after a `set`, an `insert`, a `remove` or a `rename` are of each profile of which the lines were before and the new value, if
+/// there is one; of a `section` and an `element` see `plain_edits`.
 pub fn profiles()
     ensures set { SetOfProfile }
     ensures insert { InsertOfProfile }
@@ -116,8 +117,8 @@ pub fn kept_lines()
     ensures remove { RemoveKeepsLines }
 {}
 
-/// Where the pieces of a tree stand does not count: the edited tree, without its places, is what the edit makes of the tree
-/// without its places. Of an `insert` this is said at the root alone.
+/// Where the pieces of a tree stand does not count: the tree after one of these edits, without its places, is what the edit makes of the
+/// tree without its places. Of an `insert` this is said at the root alone.
 pub fn bares()
     ensures set { SetBares }
     ensures insert { InsertBares }
@@ -226,8 +227,8 @@ pub fn standing_removed()
 /// What the editor answers in a layout, want of memory aside. Where all edits of a list are defined on the data so far and plain, it is the
 /// text that they write, if it is within the limit of a text, and else that it is too long. Where the edits before one are so,
 /// and it is not defined, it is that edit's fault with its number; where it is defined, but a `set` of an address where the text so
-/// far has no one value, or a `section` or an `element` right above which stands the value of a line, or what one holds, it is that
-/// its place is spread, with its number.
+/// far has no one value, or a `section` or an `element` above which a line's value stands, it is that its place is spread, with its
+/// number.
 pub fn plain_answers()
     ensures plain { PlainIsAnswered }
     ensures long { LongIsAnswered }

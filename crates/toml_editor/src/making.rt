@@ -30,8 +30,7 @@ pub(crate) struct Read<'a, 't> {
 
 /// Makes the edits. The first one that is not defined on the data so far, or whose place is spread, or that would leave an
 /// array of tables without an element, is told with its number. Where the edits before it are plain, none that is made sets a
-/// table or an array of which the text has no one value, or puts a header line right below the value of a line, or below what
-/// stands in one; and one that is told to be spread, or to take a last element, is not plain, nor held by an array or an inline
+/// table or an array of which the text has no one value, or puts a header line in below a line's value; and one that is told to be spread, or to take a last element, is not plain, nor held by an array or an inline
 /// table in a value.
 pub(crate) fn make_all<'x>(
     alloc: Global,

@@ -141,7 +141,7 @@ or_at_end p brackets style may_blank ss None = put_at_end p brackets style may_b
 or_at_end p brackets style may_blank ss (Some put) = put
 
 -- lines with the header line of what is to stand at `p`, right below `q`, behind the last section of its family, where more than blank lines
--- follows there
+-- follow there
 abbrev pub beside_family : Address → Address → Brackets → List ℕ → List Standing → Option (List Standing)
 beside_family q p brackets style ss = behind_family (family q p ss) (λ front. header_behind p brackets front style) ss
 

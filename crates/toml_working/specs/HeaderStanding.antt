@@ -15,7 +15,7 @@ abbrev pub header_laid_out : Layout → Address → Address → Brackets → Man
 header_laid_out layouts.Plain q p brackets manner ss = put_plainly (innermost q) (new_header p brackets []) manner.newline ss
 header_laid_out layouts.Follow q p brackets manner ss = put_following q p brackets manner.newline manner.may_blank ss
 
--- it is put in where what stands at `q` is no line's value, and lies in none
+-- it is put in where no line's value stands at `q` or above it
 abbrev pub header_standing : Address → Address → Brackets → Manner → List Standing → List Standing
 header_standing q p brackets manner ss = if list_any (holds q) ss then ss else header_laid_out manner.layout q p brackets manner ss
 

@@ -57,7 +57,7 @@ or_header_at_end p brackets style may_blank lines None = header_at_end p bracket
 or_header_at_end p brackets style may_blank lines (Some put) = put
 
 -- the header line of what is to stand at `p`, right below `q`, put in among lines by layout `Follow`: behind the last section of its family, where
--- more than blank lines follows there, else at the end
+-- more than blank lines follow there, else at the end
 abbrev pub with_header_following : Address → Brackets → Address → List ℕ → Bool → List Line → List Line
 with_header_following q brackets p style may_blank lines =
     or_header_at_end p brackets style may_blank lines (line_behind_family (family q p (standing lines)) (header_line_behind p brackets style) (shown lines))

@@ -22,6 +22,6 @@ HasLine lines p = list_any (is_pair p) (standing lines) ≡ true
 abbrev pub HasSection : List Line → Address → Type 0
 HasSection lines q = (q ≡ []) ⊎ (list_any (is_sought_line sought.Header q) (standing lines) ≡ true)
 
--- what stands at the address is no line's value, and lies in none
+-- no line's value stands at the address or above it
 abbrev pub IsInNoValue : List Line → Address → Type 0
 IsInNoValue lines q = list_any (holds q) (standing lines) ≡ false

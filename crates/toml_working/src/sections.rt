@@ -56,8 +56,8 @@ enum Walk {
 impl<'x> Tree<'x> {
     /// Puts a header line in. By layout `Plain` it goes before the first header line behind those of the innermost element of an array
     /// of tables in which it is to stand, else to the end of the text. By layout `Follow` it goes behind the last section of its family,
-    /// where more than blank lines follows there; else to the end, and a blank line may go before it. It answers `false` where a value
-    /// stands right above it, or holds what stands there.
+    /// where more than blank lines follow there; else to the end, and a blank line may go before it. It answers `false` where a line's
+    /// value stands above it.
     pub fn add_header(
         &mut self,
         before: Before<'_, 'x>,

@@ -47,7 +47,7 @@ use Rattle.toml_editor.proofs.written.Follow.{follows}
 use Rattle.toml_editor.proofs.written.FollowedFacts.{name_is_no_element}
 use Rattle.toml_editor.proofs.written.HeaderFacts.{element_room, section_room}
 use Rattle.toml_editor.proofs.written.HeaderLaidOut.{StandsInLayout, element_laid_out, section_laid_out}
-use Rattle.toml_editor.proofs.written.InTurn.{header_is_taken}
+use Rattle.toml_editor.proofs.written.InTurn.{documents_are_ready}
 use Rattle.toml_editor.proofs.written.StandingOrder.{rules_order}
 use Rattle.toml_editor.proofs.written.TablesStay.{parent_is}
 
@@ -84,7 +84,7 @@ header_told profile read old new brackets p q last text kinds at own array steps
     let rules = at.good.good.0 in
     let asked : IsAsked q p (innermost q) steps = record { right = (last, own); inner = refl; array = array; spells = are_spellings p (map string_bytes steps) spells } in
     puts q last own asked (standing lines) at.stands (rules_order lines rules)
-    (header_is_taken (manner old).layout q lines at.good.spelled.0.lines.forms rules)
+    (documents_are_ready (manner old).layout q lines at.good.spelled.0.lines.forms rules)
 
 module _ (profile : Profile) (read : Read) (old new : Tree) (brackets : Brackets) (p q : Address) (last : Step) (text : List ℕ) (kinds : Kinds)
     (at : IsAt profile read old text kinds) (own : p ≡ q ++ last ∷ []) (outside : IsInNoValue at.good.tree.lines q) (array : ArrayIsNotRoot q p)

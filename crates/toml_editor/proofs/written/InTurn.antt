@@ -20,7 +20,7 @@ use Rattle.toml_working.specs.Headers.{ElementStands, StandInTurn, begins_later,
 use Rattle.toml_working.specs.Seeing.{heads, heads_below, is_sought_line}
 use Rattle.toml_working.specs.Standing.{Standing, standing}
 use Rattle.toml_working.specs.declared.lines.Sought.TheVariants as sought
-use Rattle.toml_editor.specs.HeaderLaws.{HeaderIsTaken}
+use Rattle.toml_editor.specs.HeaderLaws.{DocumentsAreReady}
 use Rattle.toml_editor.proofs.written.Clear.{same_is}
 use Rattle.toml_editor.proofs.written.Counted.{counts_grow, own_counts}
 use Rattle.toml_editor.proofs.written.CountedArrays.{element_unnamed, end_named}
@@ -191,8 +191,8 @@ module _ (lines : List Line) (e r : Address) (i : ℕ) (e_is : e ≡ element r i
   stand_in_turn : StandInTurn e (standing lines)
   stand_in_turn = record { first = first_stands; last = last_stands }
 
-pub header_is_taken : HeaderIsTaken
-header_is_taken layout q lines are keeps =
+pub documents_are_ready : DocumentsAreReady
+documents_are_ready layout q lines are keeps =
     let rooted = root_comes_first lines are in
     record { some = rooted.some; root = rooted.none; element = by layout }
   where

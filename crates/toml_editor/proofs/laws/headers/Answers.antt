@@ -1,4 +1,4 @@
-use Rattle.toml_editor.proofs.Proved.{element_is_laid_out, element_names, header_is_taken, section_is_laid_out, section_names}
+use Rattle.toml_editor.proofs.Proved.{element_is_laid_out, element_names, documents_are_ready, section_is_laid_out, section_names}
 use Rattle.toml_editor.proofs.laws.headers.Goals as goal
 
 pub returns : goal.returns
@@ -7,5 +7,5 @@ returns c = record {
   element_names = element_names;
   section_laid_out = section_is_laid_out;
   element_laid_out = element_is_laid_out;
-  taken = header_is_taken;
+  ready = documents_are_ready;
 }
