@@ -219,6 +219,18 @@ fewer_steps p text read slots at ss found stands ordered there =
     let few : steps_to s.address < length p = grind (arith, nat_tests) in
     subst (λ n. n < length p) (sym (ap steps_of placed)) few
 
+-- and lines hold the address
+pub held_there : (p : Address) (text : List ℕ) (read : Read) (slots : List Slot) (at : Position) (ss : List Standing) → IsSoughtAt sought.Holder p read slots at
+    → Stands text read slots ss → list_any (holds p) ss ≡ true
+held_there p text read slots at ss found stands =
+    let (slot, s, slot_is, placed, line_is, leads) = holder_at read slots at p found in
+    let (before, behind, split, set_to) = slot_split read slots at.slot slot slot_is in
+    let (front, back, own, new) = item_split (slot_standing read slot) at.index s line_is in
+    ap (list_any (holds p)) (sym stands.are ∙ split_within before front s back behind (slot_standing read slot) (slots_standing read slots) split own)
+    ∙ list_any-append (holds p) (before ++ front) (s ∷ back ++ behind)
+    ∙ ap (λ b. list_any (holds p) (before ++ front) || (b || list_any (holds p) (back ++ behind))) leads
+    ∙ or-true (list_any (holds p) (before ++ front))
+
 -- where no line holds an address none has it in its value
 pub not_inside : (p : Address) (text : List ℕ) (read : Read) (slots : List Slot) (ss : List Standing) → HoldsNone p read.units slots → ¬ (p ≡ [])
     → Stands text read slots ss → AreOrdered ss → list_any (holds_inside p) ss ≡ true → ⊥

@@ -1,5 +1,5 @@
 -- What a `remove` of a line makes of the lines of the working tree.
-use Rattle.std.specs.Prelude.{◌≡◌, ◌&&◌, ◌||◌, ◌++◌, Bool, true, not, ℕ, List, [], ◌∷◌, length, map, if◌then◌else◌, Option, Some, None}
+use Rattle.std.specs.Prelude.{◌≡◌, ◌&&◌, ◌||◌, ◌++◌, Bool, true, false, not, ℕ, List, [], ◌∷◌, is_some, length, map, if◌then◌else◌, Option, Some, None}
 use Rattle.std.specs.Bool.{nat_lt}
 use Rattle.std.specs.List.{list_any}
 use Rattle.toml_names.specs.model.Addresses.{Address}
@@ -12,10 +12,12 @@ use Rattle.toml_working.specs.declared.lines.Line.{Line}
 use Rattle.toml_working.specs.declared.lines.Slot.{Slot}
 use Rattle.toml_working.specs.declared.working.Position.{Position}
 use Rattle.toml_working.specs.declared.working.Tree.{Tree}
+use Rattle.toml_layout.specs.Holders.{parent_of}
+use Rattle.toml_working.specs.Headers.{element_of}
 use Rattle.toml_working.specs.Parents.{IsParent}
 use Rattle.toml_working.specs.RemoveStanding.{is_pair, left_of_pair, makes, makes_beside, remove_standing}
 use Rattle.toml_working.specs.Seeing.{line_at, read_by}
-use Rattle.toml_working.specs.Standing.{Standing, Read, AreOrdered, is_below, line_standing, slot_standing, slots_standing}
+use Rattle.toml_working.specs.Standing.{Standing, Read, AreOrdered, holds, is_below, line_standing, slot_standing, slots_standing}
 use Rattle.toml_working.specs.Stands.{BodyKept, KeepsRest, SlotKept, Stands}
 use Rattle.toml_working.specs.Turning.{OneTurns}
 
@@ -97,6 +99,15 @@ pub record TakesOutLine (p : Address) (read : Read) (at : Position) (old now : T
   pub is_parent : IsParent p parent
   pub tells : TellsStays p parent read old.slots.items at stays
   pub leaves : LeavesSlots old.texts read p parent stays at.slot old.slots.items now.slots.items
+
+-- an element goes only where a line that is not at it, nor below it, makes its array
+abbrev pub LeavesElements : Address → List ReadUnit → List Slot → Bool → Type 0
+LeavesElements p units slots result = is_some (element_of p) ≡ true → TellsMaker (parent_of p) p units slots result
+
+-- a `remove` of an element that is no line's value, and in none: so it is told whether it is made
+abbrev pub TakesElement : Address → Read → Tree → Bool → Type 0
+TakesElement p read old done = (ss : List Standing) → Stands (text_of old.texts.source) read old.slots.items ss → AreOrdered ss
+    → list_any (holds p) ss ≡ false → is_some (element_of p) ≡ true → done ≡ list_any (makes_beside (parent_of p) p) ss
 
 -- a `remove` on lines of which one has the value
 abbrev pub RemovesLines : Address → Read → Tree → Tree → Type 0

@@ -5,7 +5,7 @@ ghost use Rattle.toml_layout.specs.KnownLines.{lines_known};
 ghost use Rattle.toml_working.specs.HeldLines.{TakesFromValue};
 ghost use Rattle.toml_working.specs.Parents.{IsParent};
 ghost use Rattle.toml_working.specs.RemoveStanding.{makes_apart};
-ghost use Rattle.toml_working.specs.RemovingIn.{LeavesBehind, LeavesLines, LeavesSlot, LeavesSlots, RemovesLines, SlotTellsMaker, TakesOutLine, TellsMaker, TellsStays, lines_of};
+ghost use Rattle.toml_working.specs.RemovingIn.{LeavesBehind, LeavesElements, LeavesLines, LeavesSlot, LeavesSlots, RemovesLines, SlotTellsMaker, TakesElement, TakesOutLine, TellsMaker, TellsStays, lines_of};
 ghost use Rattle.toml_working.specs.Seeing.{IsSoughtAt};
 ghost use Rattle.toml_working.specs.Starting.{read_of};
 ghost use Rattle.toml_working.specs.Stands.{KeepsRest};
@@ -42,6 +42,7 @@ impl<'x> Tree<'x> {
     ) -> Result<bool, AllocError>
         ensures line { OnOk result (RemovesLines at.now (read_of before.entry) self.old self.new) }
         ensures value { IfOk result (TakesFromValue at.now (read_of before.entry) self.old self.new) }
+        ensures element { IfOk result (TakesElement at.now (read_of before.entry) self.old) }
     {
         match self.value_line(before, named, at) {
             Some(place) => self.remove_value(before, place, at),
@@ -76,7 +77,9 @@ impl<'x> Tree<'x> {
         named: Option<Place>,
         at: &Address,
         flat: bool,
-    ) -> Result<bool, AllocError> {
+    ) -> Result<bool, AllocError>
+        ensures { IfOk result (LeavesElements at.now before.entry.units.now self.old.slots.items) }
+    {
         let first = self.first_slot(before, named, at, flat || is_element(at));
         if !self.leaves_elements(before, first, at)? {
             return Ok(false);
@@ -159,7 +162,9 @@ impl<'x> Tree<'x> {
         before: Before<'_, 'x>,
         first: usize,
         at: &Address,
-    ) -> Result<bool, AllocError> {
+    ) -> Result<bool, AllocError>
+        ensures { IfOk result (LeavesElements at.now before.entry.units.now self.now.slots.items) }
+    {
         if !is_element(at) {
             return Ok(true);
         }
