@@ -7,6 +7,7 @@ pub use Rattle.toml_editor.proofs.written.InsertKept.{insert_rules, insert_short
 pub use Rattle.toml_editor.proofs.written.InsertFormed.{insert_forms}
 pub use Rattle.toml_editor.proofs.written.HeaderLaws.{section_names, element_names, section_is_laid_out, element_is_laid_out, section_units, element_units}
 pub use Rattle.toml_editor.proofs.written.InTurn.{documents_are_ready}
+pub use Rattle.toml_editor.proofs.written.ValuesPlaced.{value_is_place}
 pub use Rattle.toml_editor.proofs.written.RemovedEither.{empty_names, empty_units, remove_data, remove_good, remove_keeps_lines, remove_names, remove_units}
 pub use Rattle.toml_editor.proofs.written.RemoveKept.{remove_forms}
 pub use Rattle.toml_editor.proofs.written.RenameNamed.{rename_names}

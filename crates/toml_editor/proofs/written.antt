@@ -120,6 +120,8 @@ pub mod UnitsTaken
 pub mod Unplaced
 pub mod Unplain
 pub mod Untouched
+pub mod ValuesAbove
+pub mod ValuesPlaced
 pub mod Way
 pub mod WayBlock
 pub mod WayComments

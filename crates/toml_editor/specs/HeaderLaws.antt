@@ -1,12 +1,15 @@
 -- Laws of the header line of a new table, and of a new element, over the lines before and after it, in each layout.
-use Rattle.std.specs.Prelude.{◌≡◌, ℕ, List, None}
+use Rattle.std.specs.Prelude.{◌≡◌, ◌↔◌, ℕ, List, Any, Option, Some, None}
 use Rattle.toml_tree.specs.Spells.{AreLines}
 use Rattle.toml_tree.specs.Tree.{Line}
 use Rattle.toml_tree.specs.declared.profile.Profile.{Profile}
+use Rattle.toml_names.specs.declared.model.place.Place.{Place}
+use Rattle.toml_names.specs.declared.model.place.Place.TheVariants as places
 use Rattle.toml_names.specs.mentions.Mentions.{named}
 use Rattle.toml_names.specs.mentions.Rules.{KeepsRules}
 use Rattle.toml_names.specs.model.Addresses.{Address, child, element}
 use Rattle.toml_names.specs.model.Data.{IsDataOf, Kinds}
+use Rattle.toml_names.specs.model.Places.{place}
 use Rattle.toml_edits.specs.Edits.{new_element, new_section}
 use Rattle.toml_edits.specs.Faults.{IsFault}
 use Rattle.toml_units.specs.Units.{units}
@@ -62,3 +65,14 @@ ElementUnits = (profile : Profile) (q : Address) (i : ℕ) (manner : Manner) (li
 -- innermost element stand in turn.
 abbrev pub DocumentsAreReady : Type 0
 DocumentsAreReady = (layout : Layout) (q : Address) (lines : List Line) → AreLines lines → KeepsRules (named lines) → AreReadyForHeader layout q (standing lines)
+
+-- it is the value of a line, or stands in one
+abbrev pub IsInValue : Option Place → Type 0
+IsInValue (Some (places.KeyVal line)) = Unit {0}
+IsInValue (Some (places.Inside line)) = Unit {0}
+IsInValue _ = ⊥
+
+-- Law: where a thing stands tells whether a line's value stands at it or above it: the places of the names say the same as what stands on
+-- the lines.
+abbrev pub ValueIsPlace : Type 0
+ValueIsPlace = (q : Address) (lines : List Line) → Any (λ m. m.address ≡ q) (named lines) → (¬ IsInNoValue lines q) ↔ IsInValue (place (named lines) q)

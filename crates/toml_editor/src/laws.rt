@@ -6,7 +6,7 @@ ghost use Rattle.toml_editor.specs.CertifiedLists.{PartnersCertify, OuterAreName
 ghost use Rattle.toml_editor.specs.ChangedUnits.{SetUnits};
 ghost use Rattle.toml_editor.specs.PlainAnswers.{FirstFaultIsAnswered, FirstSpreadIsAnswered, LongIsAnswered, PlainIsAnswered};
 ghost use Rattle.toml_editor.specs.LastTexts.{OneChange};
-ghost use Rattle.toml_editor.specs.HeaderLaws.{ElementIsLaidOut, ElementNames, ElementUnits, DocumentsAreReady, SectionIsLaidOut, SectionNames, SectionUnits};
+ghost use Rattle.toml_editor.specs.HeaderLaws.{ElementIsLaidOut, ElementNames, ElementUnits, DocumentsAreReady, SectionIsLaidOut, SectionNames, SectionUnits, ValueIsPlace};
 ghost use Rattle.toml_editor.specs.InsertLaws.{InsertNames, InsertRules, InsertShort, InsertData, InsertForms, InsertOfProfile, InsertKeepsLines};
 ghost use Rattle.toml_editor.specs.RemoveLaws.{EmptyNames, RemoveNames, RemoveGood, RemoveData, RemoveForms, RemoveOfProfile, RemoveKeepsLines};
 ghost use Rattle.toml_editor.specs.RenameLaws.{RenameNames, RenameGood, RenameData, RenameForms, RenameOfProfile, RenameKeepsLine};
@@ -52,6 +52,11 @@ pub fn headers()
     ensures section_laid_out { SectionIsLaidOut }
     ensures element_laid_out { ElementIsLaidOut }
     ensures ready { DocumentsAreReady }
+{}
+
+/// Where a thing stands, by the names of the lines, tells whether a line's value stands at it or above it.
+pub fn value_places()
+    ensures { ValueIsPlace }
 {}
 
 /// The units after such a `section` or `element` are those of before and its header line's, or also one of a last line of no bytes, as
