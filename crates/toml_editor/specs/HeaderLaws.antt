@@ -1,4 +1,4 @@
--- Laws of the header line of a new table, and of a new element, over the lines before and after it, in each layout.
+-- Laws of the header line of a new table, and of a new element, over the lines before and after it, in each layout; and of what lies in values.
 use Rattle.std.specs.Prelude.{◌≡◌, ◌↔◌, ℕ, List, Any, Option, Some, None}
 use Rattle.toml_tree.specs.Spells.{AreLines}
 use Rattle.toml_tree.specs.Tree.{Line}
