@@ -64,6 +64,7 @@ pub mod InsertStands
 pub mod Inside
 pub mod KeptApart
 pub mod LastBare
+pub mod LastRefused
 pub mod LastLines
 pub mod Made
 pub mod Members
