@@ -72,6 +72,7 @@ pub mod Moved
 pub mod Nested
 pub mod OnePlace
 pub mod OneSection
+pub mod OnlyElement
 pub mod OuterPairs
 pub mod PairsClear
 pub mod Pairwise
