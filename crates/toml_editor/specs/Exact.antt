@@ -1,5 +1,5 @@
 -- What the making of plain edits gives: the working tree stands for the text that they write.
-use Rattle.std.specs.Prelude.{◌≡◌, ◌<◌, ℕ, Bool, true, false, is_some, List, [], ◌∷◌, ◌++◌, length, take, Some, None, slice_get}
+use Rattle.std.specs.Prelude.{◌≡◌, ◌<◌, ℕ, Bool, true, List, [], ◌∷◌, ◌++◌, length, take, Some, None, slice_get}
 use Rattle.std.specs.List.{list_any}
 use Rattle.std.specs.declared.alloc.Global.{Global}
 use Rattle.std.specs.declared.string.String.{String}
@@ -25,19 +25,17 @@ use Rattle.toml_working.specs.Becoming.{TreeRenames}
 use Rattle.toml_editor.specs.CertifiedLists.{ArePlain}
 use Rattle.toml_editor.specs.LastTexts.{ChangesLines, IsInContainer}
 use Rattle.toml_layout.specs.declared.tree.Value.{Value as OpenValue}
-use Rattle.toml_layout.specs.Holders.{parent_of}
 use Rattle.toml_layout.specs.Holding.{PutsHeld}
 use Rattle.toml_layout.specs.declared.tree.Brackets.{Brackets}
 use Rattle.toml_layout.specs.declared.tree.Brackets.TheVariants.{One, Two}
 use Rattle.toml_layout.specs.OpenOutlines.{leaf_text, value as open_outline}
 use Rattle.toml_working.specs.AddingHeaders.{TreeAddsHeader}
-use Rattle.toml_working.specs.Headers.{element_of, innermost}
+use Rattle.toml_working.specs.Headers.{innermost}
 use Rattle.toml_working.specs.HeldLines.{HoldsLines, TakesFromValue}
 use Rattle.toml_editor.specs.PlainTexts.{IsPlainOrHeld, IsPlainOn, IsRefusedIn}
 use Rattle.toml_working.specs.Putting.{TreeInserts, manner}
 use Rattle.toml_working.specs.Sections.{TreePutsBelow}
-use Rattle.toml_working.specs.RemoveStanding.{makes_beside}
-use Rattle.toml_working.specs.RemovingIn.{RemovesLines}
+use Rattle.toml_working.specs.RemovingIn.{RemovesLines, TakesElement}
 use Rattle.toml_editor.specs.SpelledEdits.{AreSteps}
 use Rattle.toml_working.specs.Standing.{AreOrdered, Read, Standing, holds, standing}
 use Rattle.toml_working.specs.Stands.{KeepsRest, KeepsTexts, Stands, TreeSets}
@@ -117,11 +115,6 @@ pub record WritesRename (read : Read) (p : Address) (to : List ℕ) (old new : T
   pub source : KeepsSource old new
   pub whole : NoneIsGone new.elements
 
--- a `remove` of an element that is in no value is made where a line beside it makes the array
-abbrev pub TakesElement : Address → Read → Tree → Bool → Type 0
-TakesElement at read old done = (ss : List Standing) → Stands (text_of old.texts.source) read old.slots.items ss → AreOrdered ss
-    → list_any (holds at) ss ≡ false → is_some (element_of at) ≡ true → done ≡ list_any (makes_beside (parent_of at) at) ss
-
 -- What an edit makes of the working tree, where no element is gone: a `set` puts the value in, if one stands there, and tells whether;
 -- an `insert` of a name at the root, or in a table that has a header, puts its line in, a `remove` takes out the line of a value, or makes it
 -- the empty table right above where that would go with it, a `rename` gives lines the new name, a `section` and an `element` put their header
@@ -159,7 +152,7 @@ OfPlain profile read cs tree k P = (c : Change) → slice_get cs k ≡ Some c �
     → ArePlain profile (take k cs) (manner tree) text
     → (between : List ℕ) → AreWritten profile (take k cs) (manner tree) text between → P c between mid
 
--- so it is of the edit with this number, where those before it are plain, and of the data near the edits
+-- so it is of the edit with this number, where those before it are plain; of the data those are known that are near the edits
 abbrev pub PassesAt : Profile → Read → List Change → Kinds → Tree → ℕ → Type 0
 PassesAt profile read cs near tree k = (part : Kinds) × Lead profile (take k cs) near part
     × OfPlain profile read cs tree k (λ c text kinds. MayBeRefused c part → ¬ IsRefusedIn profile text c)
@@ -212,8 +205,8 @@ OfNoPlaceAt P (Spread i) = P i
 OfNoPlaceAt P (LastElement i) = P i
 OfNoPlaceAt P _ = Unit {0}
 
--- no edit before the one with the fault is refused for its place, or a last element, and that one is neither plain nor held, if it is told to be
--- so
+-- no edit before the one with the fault has a place that is spread, or takes a last element, and that one is neither plain nor held, if it is
+-- told to be spread or to take a last element
 pub record Stops (profile : Profile) (read : Read) (cs : List Change) (near : Kinds) (tree : Tree) (fault : EditorFault) : Type 0 where
   pub passed : OfNumber (λ n. PassesAll profile read cs near n tree) fault
   pub spread : OfNoPlaceAt (λ j. IsNeitherAt profile read cs j tree) fault

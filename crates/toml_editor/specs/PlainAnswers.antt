@@ -38,7 +38,7 @@ IsAnswer layout profile before cs (Err fault) = TellsWith layout profile before 
 abbrev pub IsFaultOrMemory : EditorFault → Result (List ℕ × List (ℕ × ℕ)) EditorFault → Type 0
 IsFaultOrMemory fault answer = (answer ≡ Err fault) ⊎ (answer ≡ Err NoMemory)
 
--- how an edit without a fault is refused that has no one place, or takes a last element: with 308 a `remove`, with 307 another
+-- how the edit with this number is refused, if it has no fault: a `remove` with 308, another with 307
 abbrev pub refusal : ℕ → Change → EditorFault
 refusal n (remove p) = LastElement n
 refusal n _ = Spread n
@@ -64,8 +64,8 @@ FirstFaultIsAnswered = (layout : Layout) (profile : Profile) (before : List ℕ)
     → IsFault profile c mid (Some fault) → (answer : Result (List ℕ × List (ℕ × ℕ)) EditorFault) → IsAnswer layout profile before cs answer
     → IsFaultOrMemory (Edit n fault) answer
 
--- and where it has none, but the text so far has no one place for it, as `IsRefusedIn` has it of a `set`, a `section` and an `element`, the
--- answer is that its place is spread, with its number; where it is a `remove` that takes a last element, as that has it, it is this.
+-- and where it has none, but on the text so far it is refused, as `IsRefusedIn` has it, the answer is, with its number: of a `set`, a
+-- `section` and an `element` that its place is spread, of a `remove` that it takes a last element.
 abbrev pub FirstRefusedIsAnswered : Type 0
 FirstRefusedIsAnswered = (layout : Layout) (profile : Profile) (before : List ℕ) (cs : List Change) (n : ℕ) (between : List ℕ) (mid : Kinds)
     → PlainSoFar layout profile before cs n between mid → (c : Change) → slice_get cs n ≡ Some c → IsFault profile c mid None

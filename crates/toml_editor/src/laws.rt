@@ -228,7 +228,7 @@ pub fn standing_removed()
 /// text that they write, if it is within the limit of a text, and else that it is too long. Where the edits before one are so,
 /// and it is not defined, it is that edit's fault with its number; where it is defined, but a `set` of an address where the text so
 /// far has no one value, or a `section` or an `element` above which a line's value stands, it is that its place is spread, with its
-/// number; and where it is the `remove` of the only element of an array of tables, that it is this, with its number.
+/// number; where it is a `remove` of the only element of an array of tables, it is that it takes a last element, with its number.
 pub fn plain_answers()
     ensures plain { PlainIsAnswered }
     ensures long { LongIsAnswered }

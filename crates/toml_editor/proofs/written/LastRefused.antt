@@ -12,8 +12,9 @@ use Rattle.toml_layout.specs.Holders.{parent_of}
 use Rattle.toml_working.specs.declared.working.Tree.{Tree}
 use Rattle.toml_working.specs.Headers.{element_of}
 use Rattle.toml_working.specs.RemoveStanding.{makes_beside}
+use Rattle.toml_working.specs.RemovingIn.{TakesElement}
 use Rattle.toml_working.specs.Standing.{Read, holds, standing}
-use Rattle.toml_editor.specs.Exact.{IsAt, TakesElement}
+use Rattle.toml_editor.specs.Exact.{IsAt}
 use Rattle.toml_editor.specs.PlainTexts.{IsRefusedIn}
 use Rattle.toml_editor.proofs.written.FollowedFacts.{index_is_element}
 use Rattle.toml_editor.proofs.written.OnlyElement.{element_in_no_value, only_element}

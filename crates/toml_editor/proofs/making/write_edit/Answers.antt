@@ -2,9 +2,9 @@ use Rattle.std.proofs.Common.{◌∙◌, subst, subst₂}
 use Rattle.std.proofs.lemmas.Result.{IfOk-weaker}
 use Rattle.toml_edits.specs.Edits.{change}
 use Rattle.toml_layout.specs.declared.tree.Brackets.TheVariants.{One, Two}
-use Rattle.toml_editor.specs.Exact.{TakesElement, WritesBelow, WritesHeader, WritesInsert, WritesInside, WritesSet}
+use Rattle.toml_editor.specs.Exact.{WritesBelow, WritesHeader, WritesInsert, WritesInside, WritesSet}
 use Rattle.toml_working.specs.HeldLines.{TakesFromValue}
-use Rattle.toml_working.specs.RemovingIn.{RemovesLines}
+use Rattle.toml_working.specs.RemovingIn.{RemovesLines, TakesElement}
 use Rattle.toml_editor.specs.SpelledEdits.{IsSpelled}
 use Rattle.toml_working.specs.Starting.{read_of}
 use Rattle.toml_editor.proofs.Answered.{if_ok_and, if_ok_two, if_ok_with}
@@ -36,7 +36,7 @@ returns-in-Remove c =
       subst (λ a. TakesFromValue a read c.args.tree.now c.remove.new.self done) (at whole) made.1,
       subst (λ a. TakesElement a read c.args.tree.now done) (at whole) taken,
     ))
-    (if_ok_with _ _ c.remove.result c.remove.ensures.line c.remove.ensures.value) ?)
+    (if_ok_with _ _ c.remove.result c.remove.ensures.line c.remove.ensures.value) c.remove.ensures.element)
 
 pub returns-in-Insert : goal.returns-in-Insert
 returns-in-Insert c =
