@@ -1,5 +1,5 @@
 -- What the making of edits passes, and where it stops, as facts of the text before the edits and of all its data.
-use Rattle.std.proofs.Common.{◌≡◌, ℕ, List, take, Some, None, slice_get, sym, subst, ◌∙◌}
+use Rattle.std.proofs.Common.{◌≡◌, ℕ, List, take, Some, None, slice_get, sym, subst}
 use Rattle.std.proofs.Math.Path.{fun_ext}
 use Rattle.toml_text.specs.Forms.{IsNewline}
 use Rattle.toml_text.specs.Source.{text_of}
