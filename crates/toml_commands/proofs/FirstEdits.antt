@@ -16,7 +16,7 @@ use Rattle.toml_one.proofs.Proved.{EndsTooDeep, IsCut, deep_is_refused, whole_or
 use Rattle.toml_checker.specs.Documents.{AreDefined, OfData}
 use Rattle.toml_editor.specs.CertifiedLists.{ArePlain}
 use Rattle.toml_editor.specs.Edited.{IsEditedWith, MayBeSpread, OfDefined, OnDataSoFar, SoFar, TakesLastElement, TellsWith}
-use Rattle.toml_editor.specs.PlainTexts.{AfterPlain, IsPlainOrHeld, IsSpreadIn, IsNeitherPlainNorHeld, NoneIsSpread}
+use Rattle.toml_editor.specs.PlainTexts.{AfterPlain, IsPlainOrHeld, IsRefusedIn, IsNeitherPlainNorHeld, NoneIsRefused}
 use Rattle.toml_editor.specs.Steps.{AreWritten}
 use Rattle.toml_editor.specs.declared.fault.EditorFault.{EditorFault}
 use Rattle.toml_editor.specs.declared.fault.EditorFault.TheVariants as faults
@@ -67,8 +67,8 @@ module _ (layout : Layout) (profile : Profile) (before : List ℕ) (some left : 
     neither_edit : IsNeitherPlainNorHeld layout profile before some k → IsNeitherPlainNorHeld layout profile before (some ++ left) k
     neither_edit (d, spells, none) = (d, spells, after_plain d (λ c text. ¬ IsPlainOrHeld profile text c) none)
 
-  no_spread : (n : ℕ) → n ≤ length some → NoneIsSpread layout profile before some n → NoneIsSpread layout profile before (some ++ left) n
-  no_spread n within (d, spells, none) = (d, spells, λ k low. after_plain k (omega (arith, within, low)) d (λ c text. ¬ IsSpreadIn profile text c) (none k low))
+  none_refused : (n : ℕ) → n ≤ length some → NoneIsRefused layout profile before some n → NoneIsRefused layout profile before (some ++ left) n
+  none_refused n within (d, spells, none) = (d, spells, λ k low. after_plain k (omega (arith, within, low)) d (λ c text. ¬ IsRefusedIn profile text c) (none k low))
 
   is_within : (k : ℕ) (P : Change → Kinds → Type 0) → OnDataSoFar profile before some k P → k < length some
   is_within k P (d, spells, old, facts, (mid, lead, c, is, holds)) = slice_get_within some k c is
@@ -81,15 +81,15 @@ module _ (layout : Layout) (profile : Profile) (before : List ℕ) (some left : 
   tells ends (faults.Edit index fault) (document, on, none) =
       let P : Change → Kinds → Type 0 = λ c kinds. IsFault profile c kinds (Some fault) in
       let low = is_within index P on in
-      (document, data_so_far index low P on, no_spread index (below index low) none)
+      (document, data_so_far index low P on, none_refused index (below index low) none)
   tells ends (faults.Spread index) (document, on, plain, none) =
       let P : Change → Kinds → Type 0 = OfDefined profile MayBeSpread in
       let low = is_within index P on in
-      (document, data_so_far index low P on, neither_edit index low plain, no_spread index (below index low) none)
+      (document, data_so_far index low P on, neither_edit index low plain, none_refused index (below index low) none)
   tells ends (faults.LastElement index) (document, on, plain, none) =
       let P : Change → Kinds → Type 0 = OfDefined profile TakesLastElement in
       let low = is_within index P on in
-      (document, data_so_far index low P on, neither_edit index low plain, no_spread index (below index low) none)
+      (document, data_so_far index low P on, neither_edit index low plain, none_refused index (below index low) none)
   tells ends faults.TooLong (defined, long, none) = absurd (not_defined profile before some ends defined.1)
   tells ends (faults.Unverified reason) (defined, plain, none, unmet) = absurd (not_defined profile before some ends defined.1)
   tells ends (faults.Text fault) told = told

@@ -21,7 +21,7 @@ use Rattle.toml_names.specs.declared.fault.ReadFault.TheVariants as reads
 use Rattle.toml_names.specs.reader.Texts as texts
 use Rattle.toml_names.proofs.Proved.{refused_text}
 use Rattle.toml_edits.specs.Edits.{Change}
-use Rattle.toml_editor.specs.PlainTexts.{IsNeitherPlainNorHeld, NoneIsSpread}
+use Rattle.toml_editor.specs.PlainTexts.{IsNeitherPlainNorHeld, NoneIsRefused}
 use Rattle.toml_editor.specs.Edited.{RefusesText, TellsWith}
 use Rattle.toml_editor.specs.Exact.{OfNoPlaceAt, OfNumber}
 use Rattle.toml_layout.specs.declared.layout.Layout.{Layout}
@@ -63,7 +63,7 @@ names_told profile text names.NoMemory is h = tt
 -- what is told of the data of a text is told of the text
 pub any_tells : (layout : Layout) (profile : Profile) (before : List ℕ) (cs : List Change) (d : Doc) (old : Kinds) (fault : EditorFault) → IsDocumentIn profile before
     → Spells d before → IsDataOf (named d.lines) old → TellsAny profile cs old fault
-    → OfNumber (NoneIsSpread layout profile before cs) fault → OfNoPlaceAt (IsNeitherPlainNorHeld layout profile before cs) fault → TellsWith layout profile before cs fault
+    → OfNumber (NoneIsRefused layout profile before cs) fault → OfNoPlaceAt (IsNeitherPlainNorHeld layout profile before cs) fault → TellsWith layout profile before cs fault
 any_tells layout profile before cs d old (faults.Edit i f) document spelled facts h passed not = (document, (d, spelled, old, facts, h), passed)
 any_tells layout profile before cs d old (faults.Spread i) document spelled facts h passed not = (document, (d, spelled, old, facts, h), not, passed)
 any_tells layout profile before cs d old (faults.LastElement i) document spelled facts h passed not = (document, (d, spelled, old, facts, h), not, passed)

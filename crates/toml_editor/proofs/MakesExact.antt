@@ -17,18 +17,18 @@ use Rattle.toml_names.specs.model.Data.{Kinds}
 use Rattle.toml_edits.specs.After.{IsAfter}
 use Rattle.toml_edits.specs.Faults.{IsFault}
 use Rattle.toml_edits.specs.declared.fault.EditFault.TheVariants.{RootNamed}
-use Rattle.toml_edits.specs.Edits.{Change, place, set, insert, rename, remove, new_section, new_element}
+use Rattle.toml_edits.specs.Edits.{Change, set, insert, rename, remove, new_section, new_element}
 use Rattle.toml_edits.specs.Lists.{Lead}
 use Rattle.toml_editor.specs.declared.fault.EditorFault.{EditorFault}
 use Rattle.toml_editor.specs.declared.fault.EditorFault.TheVariants as faults
 use Rattle.toml_working.specs.declared.working.Tree.{Tree}
 use Rattle.toml_editor.specs.CertifiedLists.{ArePlain}
-use Rattle.toml_editor.specs.Edited.{TakesLastElement, MayBeSpread}
+use Rattle.toml_editor.specs.Edited.{MayBeRefused, MayBeSpread, TakesLastElement}
 use Rattle.toml_editor.specs.LastTexts.{ChangesLines, IsInContainer, IsPutThere}
-use Rattle.toml_editor.specs.Exact.{Follows, HoldsOne, IsAt, IsSpreadOn, IsNeitherAt, IsNeitherOn, HoldsLast, MakesAll, MakesOne, OfPlain, OfNoPlaceAt, PassesAll, PassesAt, PassesOne, Stops, WritesEdit}
+use Rattle.toml_editor.specs.Exact.{Follows, HoldsOne, IsAt, IsNeitherAt, IsNeitherOn, HoldsLast, MakesAll, MakesOne, OfPlain, OfNoPlaceAt, PassesAll, PassesAt, PassesOne, Stops, WritesEdit}
 use Rattle.toml_working.specs.Putting.{manner}
 use Rattle.toml_editor.specs.Making.{TellsOne}
-use Rattle.toml_editor.specs.PlainTexts.{HasContainerFor, IsPlainOrHeld, IsPlainOn}
+use Rattle.toml_editor.specs.PlainTexts.{HasContainerFor, IsPlainOrHeld, IsPlainOn, IsRefusedIn}
 use Rattle.toml_text.specs.Source.{text_of}
 use Rattle.toml_layout.specs.declared.texts.Texts.{Texts}
 use Rattle.toml_working.proofs.Proved.{held_inside, parent_held}
@@ -44,6 +44,7 @@ use Rattle.toml_editor.proofs.written.InsertFollow.{insert_follows}
 use Rattle.toml_editor.proofs.written.RemoveNamed.{line_parts}
 use Rattle.toml_editor.proofs.written.RenameFollow.{rename_follows}
 use Rattle.toml_editor.proofs.written.HeaderFollow.{element_follows, element_refused, section_follows, section_refused}
+use Rattle.toml_editor.proofs.written.LastRefused.{last_refused}
 use Rattle.toml_editor.proofs.written.StandingOrder.{rules_order}
 use Rattle.toml_editor.proofs.written.Steps.{one_list_written}
 use Rattle.toml_working.specs.Manners.{Manner}
@@ -196,27 +197,25 @@ not_last profile read seen (rename p to) old new done writes is takes text kinds
 not_last profile read seen (new_section p) old new done writes is takes text kinds now at none is_after one = takes
 not_last profile read seen (new_element p) old new done writes is takes text kinds now at none is_after one = takes
 
--- where one is made, or the data tell that it has one place, that is not spread
+-- where one is made, or the data tell that it is not refused, it is not
 pub passes_one : (profile : Profile) (read : Read) (near : Kinds) (c : Change) (old new : Tree) (done : Bool) → WritesEdit profile read c old new done
-    → (done ≡ true) ⊎ (¬ MayBeSpread c near) → PassesOne profile read near c old
-passes_one profile read near (set p value) old new done writes (inl is) text kinds now at none is_after same spread =
+    → (done ≡ true) ⊎ (¬ MayBeRefused c near) → PassesOne profile read near c old
+passes_one profile read near c old new done writes (inr one) text kinds now at none is_after may refused = one may
+passes_one profile read near (set p value) old new done writes (inl is) text kinds now at none is_after may refused =
     let (rest, sets) = writes at.whole in
     let given = is_after.1.value in
-    spread.1 at.good.tree at.good.spelled
+    refused at.good.tree at.good.spelled
     (set_is_there profile read old new p text kinds at (none RootNamed) given.tree done (sets given.within given.tree given.is_value) is)
-passes_one profile read near (set p value) old new done writes (inr one) text kinds now at none is_after same (inl is, apart) = one (inl (same ∙ is))
-passes_one profile read near (set p value) old new done writes (inr one) text kinds now at none is_after same (inr is, apart) = one (inr (same ∙ is))
-passes_one profile read near (insert p value) old new done writes either text kinds now at none is_after same spread = spread.1
-passes_one profile read near (rename p to) old new done writes either text kinds now at none is_after same spread = spread.1
-passes_one profile read near (remove p) old new done writes either text kinds now at none is_after same spread = spread.1
-passes_one profile read near (new_section p) old new done writes (inl is) text kinds now at none is_after same spread =
+passes_one profile read near (insert p value) old new done writes (inl is) text kinds now at none is_after may refused = refused
+passes_one profile read near (rename p to) old new done writes (inl is) text kinds now at none is_after may refused = refused
+passes_one profile read near (remove p) old new done writes (inl is) text kinds now at none is_after may refused =
+    true≢false (sym is ∙ last_refused profile read old p text kinds at none done (writes at.whole).2 refused)
+passes_one profile read near (new_section p) old new done writes (inl is) text kinds now at none is_after may refused =
     let (steps, spelled, rest, puts) = writes at.whole in
-    true≢false (sym is ∙ section_refused profile read old new p text kinds at none steps spelled done puts spread.1)
-passes_one profile read near (new_section p) old new done writes (inr one) text kinds now at none is_after same spread = one tt
-passes_one profile read near (new_element p) old new done writes (inl is) text kinds now at none is_after same spread =
+    true≢false (sym is ∙ section_refused profile read old new p text kinds at none steps spelled done puts refused)
+passes_one profile read near (new_element p) old new done writes (inl is) text kinds now at none is_after may refused =
     let (steps, spelled, rest, puts) = writes at.whole in
-    true≢false (sym is ∙ element_refused profile read old new p text kinds at none steps spelled done puts spread.1)
-passes_one profile read near (new_element p) old new done writes (inr one) text kinds now at none is_after same spread = one tt
+    true≢false (sym is ∙ element_refused profile read old new p text kinds at none steps spelled done puts refused)
 
 -- ---- lists
 
@@ -323,7 +322,7 @@ of_plain_made profile read cs i c old tree P makes here one d there text kinds m
     subst₂ (λ e t. P e t mid) same text_is
     (one all.after mid now all.at (subst (λ e. IsFault profile e mid None) (sym same) none) (subst (λ e. IsAfter profile e mid now) (sym same) is_after))
 
--- the places of the first so many are not spread, nor is that of one more
+-- the first so many are not refused, nor is one more
 pub none_passed : (profile : Profile) (read : Read) (cs : List Change) (near : Kinds) (tree : Tree) → PassesAll profile read cs near 0 tree
 none_passed profile read cs near tree k low = absurd (omega (arith, low))
 
@@ -336,7 +335,8 @@ more_passed profile read cs near part i c old tree so_far lead makes here one k 
     by (inl less) = so_far k less
     by (inr least) =
         let same : i ≡ k = omega (arith, low, least) in
-        subst (PassesAt profile read cs near old) same (part, lead, of_plain_made profile read cs i c old tree (λ d text kinds. part (place d) ≡ kinds (place d) → ¬ IsSpreadOn profile text d kinds) makes here one)
+        subst (PassesAt profile read cs near old) same
+        (part, lead, of_plain_made profile read cs i c old tree (λ d text kinds. MayBeRefused d part → ¬ IsRefusedIn profile text d) makes here one)
 
 -- the fault with which they end
 pub stops_at : (profile : Profile) (read : Read) (cs : List Change) (near part : Kinds) (i : ℕ) (c : Change) (old tree : Tree)

@@ -21,7 +21,7 @@ use Rattle.toml_edits.specs.Edits as edits
 use Rattle.toml_edits.specs.Faults.{IsFault}
 use Rattle.toml_edits.specs.Near.{AreNear, IsNear}
 use Rattle.toml_edits.proofs.Proved.{leads_beside, fault_beside}
-use Rattle.toml_editor.specs.Edited.{SoFar, OfDefined, TakesLastElement, MayBeSpread}
+use Rattle.toml_editor.specs.Edited.{SoFar, OfDefined, TakesLastElement, MayBeRefused, MayBeSpread}
 use Rattle.toml_editor.specs.Making.{TellsAny}
 use Rattle.toml_editor.specs.declared.fault.EditorFault.{EditorFault}
 use Rattle.toml_editor.specs.declared.fault.EditorFault.TheVariants as faults
@@ -41,7 +41,7 @@ shown : (hidden : Cover) (old new : Kinds) (a : Address) → hidden a ≡ false 
 shown hidden old new a is = sym (ap (λ b. cond b (old a) (new a)) is)
 
 -- the place of an edit is not hidden
-pub place_shown : (hidden : Cover) (c : Change) (old new : Kinds) → IsNear hidden c → new (place c) ≡ beside hidden old new (place c)
+place_shown : (hidden : Cover) (c : Change) (old new : Kinds) → IsNear hidden c → new (place c) ≡ beside hidden old new (place c)
 place_shown hidden c old new is = shown hidden old new (place c) (is.fronts (place c) [] (sym (append-nil (place c))))
 
 -- ---- what is told
@@ -66,6 +66,19 @@ last_on hidden old (edits.insert at value) mid is h = absurd h
 last_on hidden old (edits.rename at to) mid is h = absurd h
 last_on hidden old (edits.new_section at) mid is h = absurd h
 last_on hidden old (edits.new_element at) mid is h = absurd h
+
+-- what may be refused by all data may be by those near it
+pub refused_near : (hidden : Cover) (old : Kinds) (c : Change) (new : Kinds) → IsNear hidden c → MayBeRefused c (beside hidden old new) → MayBeRefused c new
+refused_near hidden old (edits.set at value) new is (inl (inl e)) = inl (inl (place_shown hidden (edits.set at value) old new is ∙ e))
+refused_near hidden old (edits.set at value) new is (inl (inr e)) = inl (inr (place_shown hidden (edits.set at value) old new is ∙ e))
+refused_near hidden old (edits.set at value) new is (inr h) = absurd h
+refused_near hidden old (edits.insert at value) new is h = h
+refused_near hidden old (edits.rename at to) new is h = h
+refused_near hidden old (edits.remove at) new is (inl h) = absurd h
+refused_near hidden old (edits.remove at) new is (inr (q, e, some, none)) =
+    inr (q, e, subst IsSome (sym (place_shown hidden (edits.remove at) old new is)) some, shown hidden old new (element q 1) (is.elements q (Index 0 ∷ []) 1 e) ∙ none)
+refused_near hidden old (edits.new_section at) new is h = h
+refused_near hidden old (edits.new_element at) new is h = h
 
 module _ (profile : Profile) (hidden : Cover) (old : Kinds) (cs : List Change) (are : AreNear hidden cs) where
   so : (i : ℕ) (P : Change → Kinds → Type 0) → ((c : Change) (mid : Kinds) → IsNear hidden c → P c mid → P c (beside hidden old mid)) → SoFar profile cs (near hidden old) i P → SoFar profile cs old i P

@@ -1,5 +1,5 @@
 -- What the making of edits passes, and where it stops, as facts of the text before the edits and of all its data.
-use Rattle.std.proofs.Common.{◌≡◌, ℕ, List, take, Some, None, slice_get, sym, subst, ◌∙◌}
+use Rattle.std.proofs.Common.{◌≡◌, ℕ, List, take, Some, None, slice_get, sym, subst}
 use Rattle.std.proofs.Math.Path.{fun_ext}
 use Rattle.toml_text.specs.Forms.{IsNewline}
 use Rattle.toml_text.specs.Source.{text_of}
@@ -14,7 +14,7 @@ use Rattle.toml_names.specs.model.Documents.{IsDocumentIn}
 use Rattle.toml_names.specs.model.Hidden.{Cover, beside, near}
 use Rattle.toml_names.specs.reader.Names.{AreGood}
 use Rattle.toml_names.proofs.Proved.{one_data}
-use Rattle.toml_edits.specs.Edits.{Change, place}
+use Rattle.toml_edits.specs.Edits.{Change}
 use Rattle.toml_edits.specs.After.{IsAfter}
 use Rattle.toml_edits.specs.Faults.{IsFault}
 use Rattle.toml_edits.specs.Lists.{Lead}
@@ -24,18 +24,19 @@ use Rattle.toml_editor.specs.declared.fault.EditorFault.{EditorFault}
 use Rattle.toml_editor.specs.declared.fault.EditorFault.TheVariants as faults
 use Rattle.toml_working.specs.declared.working.Tree.{Tree}
 use Rattle.toml_editor.specs.CertifiedLists.{ArePlain}
-use Rattle.toml_editor.specs.Exact.{IsAt, IsNeitherAt, IsSpreadOn, OfNumber, OfPlain, OfNoPlaceAt, PassesAll, PassesAt, Stops}
+use Rattle.toml_editor.specs.Edited.{MayBeRefused}
+use Rattle.toml_editor.specs.Exact.{IsAt, IsNeitherAt, OfNumber, OfPlain, OfNoPlaceAt, PassesAll, PassesAt, Stops}
 use Rattle.toml_layout.specs.declared.layout.Layout.{Layout}
 use Rattle.toml_working.specs.Manners.{Manner, manner_of, style_of}
 use Rattle.toml_working.specs.Putting.{manner}
-use Rattle.toml_editor.specs.PlainTexts.{AfterPlain, IsPlainOrHeld, IsSpreadIn, IsNeitherPlainNorHeld, NoneIsSpread}
+use Rattle.toml_editor.specs.PlainTexts.{AfterPlain, IsPlainOrHeld, IsRefusedIn, IsNeitherPlainNorHeld, NoneIsRefused}
 use Rattle.toml_working.specs.Standing.{Read, standing}
 use Rattle.toml_working.specs.Stands.{Stands}
 use Rattle.toml_working.specs.Starting.{NoneIsGone}
 use Rattle.toml_editor.specs.Steps.{AreWritten, IsGoodText}
-use Rattle.toml_editor.proofs.NearFaults.{near_front, near_one, place_shown}
+use Rattle.toml_editor.proofs.NearFaults.{near_front, near_one, refused_near}
 use Rattle.toml_editor.proofs.written.Elsewhere.{style_is_newline}
-use Rattle.toml_editor.proofs.written.ScalarsLone.{may_lack}
+use Rattle.toml_editor.proofs.written.ScalarsLone.{may_be_refused}
 use Rattle.toml_editor.proofs.written.Steps.{plain_steps}
 
 module _ (profile : Profile) (read : Read) (d : Doc) (before : List ℕ) (tree : Tree) (document : IsDocumentIn profile before)
@@ -98,36 +99,37 @@ module _ (profile : Profile) (read : Read) (d : Doc) (before : List ℕ) (tree :
   neither_edit_of cs (faults.Unverified r) not = tt
   neither_edit_of cs faults.NoMemory not = tt
 
-  -- ---- edits whose places are not spread
+  -- ---- edits that are not refused
 
   module _ (hidden : Cover) (cs : List Change) (are : AreNear hidden cs) (old : Kinds) (facts : IsDataOf (named d.lines) old) (part : Kinds)
       (of : (a : _) → part a ≡ near hidden old a) where
-    passes_text : (k : ℕ) → PassesAt profile read cs part tree k → AfterPlain layout profile before cs d k (λ c text. ¬ IsSpreadIn profile text c)
-    passes_text k (near_k, led, holds) c is other mid now other_facts lead none is_after plain between written spread =
+    passes_text : (k : ℕ) → PassesAt profile read cs part tree k → AfterPlain layout profile before cs d k (λ c text. ¬ IsRefusedIn profile text c)
+    passes_text k (near_k, led, holds) c is other mid now other_facts lead none is_after plain between written refused =
         let same_old : other ≡ old = fun_ext (one_data (named d.lines) other old other_facts facts) in
         let all = leads_beside profile hidden (take k cs) old part near_k (near_front hidden k cs are) of led in
-        let mid_is : mid (place c) ≡ beside hidden old near_k (place c) =
-        one_lead profile (take k cs) old mid (beside hidden old near_k) (subst (λ o. Lead profile (take k cs) o mid) same_old lead) all (place c) in
+        let mid_is : mid ≡ beside hidden old near_k =
+        fun_ext (one_lead profile (take k cs) old mid (beside hidden old near_k) (subst (λ o. Lead profile (take k cs) o mid) same_old lead) all) in
         let good = plain_steps profile (take k cs) (manner_of layout d.lines) before between other mid newline (good_at other other_facts) lead written in
-        after_plain cs k (λ e text kinds. near_k (place e) ≡ kinds (place e) → ¬ IsSpreadOn profile text e kinds) holds c is other mid now other_facts lead
-        none is_after plain between written (place_shown hidden c old near_k (near_one hidden k cs c is are) ∙ sym mid_is)
-        (may_lack profile between mid c good.0 none spread, spread)
+        after_plain cs k (λ e text kinds. MayBeRefused e near_k → ¬ IsRefusedIn profile text e) holds c is other mid now other_facts lead none is_after plain
+        between written
+        (refused_near hidden old c near_k (near_one hidden k cs c is are) (subst (MayBeRefused c) mid_is (may_be_refused profile between mid c good.0 none refused)))
+        refused
 
-    pub none_is_spread : (n : ℕ) → PassesAll profile read cs part n tree → NoneIsSpread layout profile before cs n
-    none_is_spread n passes = (d, spelled, (λ k low. passes_text k (passes k low)))
+    pub none_is_refused : (n : ℕ) → PassesAll profile read cs part n tree → NoneIsRefused layout profile before cs n
+    none_is_refused n passes = (d, spelled, (λ k low. passes_text k (passes k low)))
 
-    pub none_is_spread_of : (fault : EditorFault) → OfNumber (λ n. PassesAll profile read cs part n tree) fault → OfNumber (NoneIsSpread layout profile before cs) fault
-    none_is_spread_of (faults.Edit n f) passes = none_is_spread n passes
-    none_is_spread_of (faults.Spread n) passes = none_is_spread n passes
-    none_is_spread_of (faults.LastElement n) passes = none_is_spread n passes
-    none_is_spread_of (faults.Text f) passes = tt
-    none_is_spread_of (faults.Syntax f) passes = tt
-    none_is_spread_of (faults.Names f) passes = tt
-    none_is_spread_of faults.TooLong passes = tt
-    none_is_spread_of (faults.Unverified r) passes = tt
-    none_is_spread_of faults.NoMemory passes = tt
+    pub none_is_refused_of : (fault : EditorFault) → OfNumber (λ n. PassesAll profile read cs part n tree) fault → OfNumber (NoneIsRefused layout profile before cs) fault
+    none_is_refused_of (faults.Edit n f) passes = none_is_refused n passes
+    none_is_refused_of (faults.Spread n) passes = none_is_refused n passes
+    none_is_refused_of (faults.LastElement n) passes = none_is_refused n passes
+    none_is_refused_of (faults.Text f) passes = tt
+    none_is_refused_of (faults.Syntax f) passes = tt
+    none_is_refused_of (faults.Names f) passes = tt
+    none_is_refused_of faults.TooLong passes = tt
+    none_is_refused_of (faults.Unverified r) passes = tt
+    none_is_refused_of faults.NoMemory passes = tt
 
     -- both, of the fault with which the edits end
     pub stops_told : (fault : EditorFault) → Stops profile read cs part tree fault
-        → OfNumber (NoneIsSpread layout profile before cs) fault × OfNoPlaceAt (IsNeitherPlainNorHeld layout profile before cs) fault
-    stops_told fault stops = (none_is_spread_of fault stops.passed, neither_edit_of cs fault stops.spread)
+        → OfNumber (NoneIsRefused layout profile before cs) fault × OfNoPlaceAt (IsNeitherPlainNorHeld layout profile before cs) fault
+    stops_told fault stops = (none_is_refused_of fault stops.passed, neither_edit_of cs fault stops.spread)

@@ -22,8 +22,8 @@ use Rattle.toml_edits.proofs.Proved.{fault_or_lead, one_first_fault, one_lead}
 use Rattle.toml_checker.specs.Documents.{OfTree, OfData, AreDefined}
 use Rattle.toml_editor.specs.CertifiedLists.{ArePlain}
 use Rattle.toml_editor.specs.Edited.{MayBeSpread, OfDefined, OnDataSoFar, SoFar, TellsWith, TakesLastElement}
-use Rattle.toml_editor.specs.PlainAnswers.{FirstFaultIsAnswered, FirstSpreadIsAnswered, IsAnswer, IsFaultOrMemory, LongIsAnswered, PlainIsAnswered, PlainSoFar}
-use Rattle.toml_editor.specs.PlainTexts.{AfterPlain, IsPlainOrHeld, IsNoPlainList, IsPlainOn, IsNeitherPlainNorHeld, IsSpreadIn, NoneIsSpread, WritesPlain}
+use Rattle.toml_editor.specs.PlainAnswers.{FirstFaultIsAnswered, FirstRefusedIsAnswered, IsAnswer, IsFaultOrMemory, LongIsAnswered, PlainIsAnswered, PlainSoFar, refusal}
+use Rattle.toml_editor.specs.PlainTexts.{AfterPlain, IsPlainOrHeld, IsNoPlainList, IsPlainOn, IsNeitherPlainNorHeld, IsRefusedIn, NoneIsRefused, WritesPlain}
 use Rattle.toml_editor.specs.Steps.{AreWritten}
 use Rattle.toml_layout.specs.declared.layout.Layout.{Layout}
 use Rattle.toml_editor.specs.declared.fault.EditorFault.{EditorFault}
@@ -130,7 +130,7 @@ module _ (layout : Layout) (profile : Profile) (before : List ℕ) (cs : List Ch
       subst P (fun_ext (one_data (named d.lines) kinds so_far.old
       (subst (λ (x : Doc). IsDataOf (named x.lines) kinds) (one_tree e d before e_spelled spelled) facts) so_far.facts)) holds
 
-  -- an edit before that has no fault, is not spread, and is plain
+  -- an edit before that has no fault, is not refused, and is plain
   no_fault_before : (j : ℕ) (P : Change → Kinds → Type 0) → ((c : Change) (kinds : Kinds) → P c kinds → (fault : EditFault) × IsFault profile c kinds (Some fault))
       → j < n → OnDataSoFar profile before cs j P → ⊥
   no_fault_before j P faulty low on =
@@ -138,8 +138,8 @@ module _ (layout : Layout) (profile : Profile) (before : List ℕ) (cs : List Ch
       let (fault, h) = faulty c mid holds in
       no_fault profile cs n j so_far.old now mid c fault so_far.lead low lead is h
 
-  no_spread_before : (j : ℕ) (c : Change) → slice_get cs j ≡ Some c → j < n → IsNeitherPlainNorHeld layout profile before cs j → ⊥
-  no_spread_before j c is low neither =
+  not_refused_before : (j : ℕ) (c : Change) → slice_get cs j ≡ Some c → j < n → IsNeitherPlainNorHeld layout profile before cs j → ⊥
+  not_refused_before j c is low neither =
       let at = defined_at profile cs n j so_far.old now c so_far.lead low is in
       let text = plain_at profile cs n j manner before after c so_far.plain so_far.written low is in
       of_tree (λ x. AfterPlain layout profile before cs x j (λ c text. ¬ IsPlainOrHeld profile text c)) neither c is so_far.old at.mid at.next so_far.facts at.lead at.none
@@ -194,10 +194,10 @@ module _ (layout : Layout) (profile : Profile) (before : List ℕ) (cs : List Ch
       absurd (no_fault_before layout profile before cs (length cs) after now so_far j (λ c kinds. IsFault profile c kinds (Some f)) (λ c kinds h. (f, h)) (low j c is) told.1)
   only (faults.Spread j) told =
       let (c, is) = edit_at profile before cs j (OfDefined profile MayBeSpread) told.1 in
-      absurd (no_spread_before layout profile before cs (length cs) after now so_far j c is (low j c is) told.2)
+      absurd (not_refused_before layout profile before cs (length cs) after now so_far j c is (low j c is) told.2)
   only (faults.LastElement j) told =
       let (c, is) = edit_at profile before cs j (OfDefined profile TakesLastElement) told.1 in
-      absurd (no_spread_before layout profile before cs (length cs) after now so_far j c is (low j c is) told.2)
+      absurd (not_refused_before layout profile before cs (length cs) after now so_far j c is (low j c is) told.2)
   only faults.TooLong told =
       let (text, writes, long) = told.1 in
       inr (refl, subst (λ t. max_len < length t) (is_text text writes) long)
@@ -274,85 +274,95 @@ module _ (layout : Layout) (profile : Profile) (before : List ℕ) (cs : List Ch
       inl (sym (ap (λ k. Err (faults.Edit k fault)) same.0 ∙ ap (λ g. Err (faults.Edit j g)) same.1))
   faulty_is_answered fault h (Err (faults.Spread j)) told =
       let (x, x_is) = edit_at profile before cs j (OfDefined profile MayBeSpread) told.1 in
-      absurd (no_spread_before layout profile before cs n between mid so_far j x x_is (is_before fault h j MayBeSpread told.1) told.2)
+      absurd (not_refused_before layout profile before cs n between mid so_far j x x_is (is_before fault h j MayBeSpread told.1) told.2)
   faulty_is_answered fault h (Err (faults.LastElement j)) told =
       let (x, x_is) = edit_at profile before cs j (OfDefined profile TakesLastElement) told.1 in
-      absurd (no_spread_before layout profile before cs n between mid so_far j x x_is (is_before fault h j TakesLastElement told.1) told.2)
+      absurd (not_refused_before layout profile before cs n between mid so_far j x x_is (is_before fault h j TakesLastElement told.1) told.2)
   faulty_is_answered fault h (Err faults.TooLong) told = absurd (not_defined fault h told.0.1)
   faulty_is_answered fault h (Err (faults.Unverified r)) told = absurd (not_defined fault h told.0.1)
   faulty_is_answered fault h (Err faults.NoMemory) told = inr refl
 
-  module _ (none : IsFault profile c mid None) (spread : IsSpreadIn profile between c) where
-    -- where the edits up to a later one lead on, it is told that the place of none is spread
-    passed : (m : ℕ) (there : Kinds) → Lead profile (take m cs) old there → n < m → NoneIsSpread layout profile before cs m → ⊥
-    passed m there lead less none_spread =
+  module _ (none : IsFault profile c mid None) (refused : IsRefusedIn profile between c) where
+    -- where the edits up to a later one lead on, it is told that none is refused
+    passed : (m : ℕ) (there : Kinds) → Lead profile (take m cs) old there → n < m → NoneIsRefused layout profile before cs m → ⊥
+    passed m there lead less none_refused =
         let at = defined_at profile cs m n old there c lead less is in
         of_tree layout profile before cs n between mid so_far
-        (λ x. (k : ℕ) → k < m → AfterPlain layout profile before cs x k (λ y text. ¬ IsSpreadIn profile text y)) none_spread n less c is old at.mid at.next so_far.facts
-        at.lead at.none at.is_after so_far.plain between so_far.written spread
+        (λ x. (k : ℕ) → k < m → AfterPlain layout profile before cs x k (λ y text. ¬ IsRefusedIn profile text y)) none_refused n less c is old at.mid at.next so_far.facts
+        at.lead at.none at.is_after so_far.plain between so_far.written refused
 
-    passed_all : OfData before (AreDefined profile cs) → NoneIsSpread layout profile before cs (length cs) → ⊥
+    passed_all : OfData before (AreDefined profile cs) → NoneIsRefused layout profile before cs (length cs) → ⊥
     passed_all defined =
         let (new, lead) = of_data layout profile before cs n between mid so_far (AreDefined profile cs) defined in
         passed (length cs) new (subst (λ ds. Lead profile ds old new) (sym (take_all (length cs) cs (omega arith))) lead) (slice_get_within cs n c is)
 
-    passed_at : (j : ℕ) (P : Change → Kinds → Type 0) → OnDataSoFar profile before cs j P → n < j → NoneIsSpread layout profile before cs j → ⊥
+    passed_at : (j : ℕ) (P : Change → Kinds → Type 0) → OnDataSoFar profile before cs j P → n < j → NoneIsRefused layout profile before cs j → ⊥
     passed_at j P on =
         let (there, lead, x, x_is, holds) = of_data layout profile before cs n between mid so_far (λ k. SoFar profile cs k j P) on in
         passed j there lead
 
-    -- an edit whose place is spread takes no last element
-    takes_none : (x : Change) → IsSpreadIn profile between x → TakesLastElement x mid → ⊥
-    takes_none (edits.set p text) spread takes = takes
-    takes_none (edits.insert p text) spread takes = spread
-    takes_none (edits.rename p to) spread takes = spread
-    takes_none (edits.remove p) spread takes = spread
-    takes_none (edits.new_section p) spread takes = takes
-    takes_none (edits.new_element p) spread takes = takes
+    -- what has no one place is refused with 307, what takes a last element with 308
+    of_spread : (x : Change) → MayBeSpread x mid → faults.Spread n ≡ refusal n x
+    of_spread (edits.set p text) may = refl
+    of_spread (edits.insert p text) may = refl
+    of_spread (edits.rename p to) may = refl
+    of_spread (edits.remove p) may = absurd may
+    of_spread (edits.new_section p) may = refl
+    of_spread (edits.new_element p) may = refl
 
-    spread_is_answered : (answer : Result (List ℕ × List (ℕ × ℕ)) EditorFault) → IsAnswer layout profile before cs answer
-        → IsFaultOrMemory (faults.Spread n) answer
-    spread_is_answered (Ok (text, pairs)) told = absurd (passed_all told.certified.defined told.passed)
-    spread_is_answered (Err (faults.Text f)) told = absurd (told.0 so_far.document)
-    spread_is_answered (Err (faults.Syntax f)) told = absurd (told.0 so_far.document)
-    spread_is_answered (Err (faults.Names f)) told = absurd (told.0 so_far.document)
-    spread_is_answered (Err (faults.Edit j f)) told = by (compare j n)
+    of_last : (x : Change) → TakesLastElement x mid → faults.LastElement n ≡ refusal n x
+    of_last (edits.set p text) takes = absurd takes
+    of_last (edits.insert p text) takes = absurd takes
+    of_last (edits.rename p to) takes = absurd takes
+    of_last (edits.remove p) takes = refl
+    of_last (edits.new_section p) takes = absurd takes
+    of_last (edits.new_element p) takes = absurd takes
+
+    refused_is_answered : (answer : Result (List ℕ × List (ℕ × ℕ)) EditorFault) → IsAnswer layout profile before cs answer
+        → IsFaultOrMemory (refusal n c) answer
+    refused_is_answered (Ok (text, pairs)) told = absurd (passed_all told.certified.defined told.passed)
+    refused_is_answered (Err (faults.Text f)) told = absurd (told.0 so_far.document)
+    refused_is_answered (Err (faults.Syntax f)) told = absurd (told.0 so_far.document)
+    refused_is_answered (Err (faults.Names f)) told = absurd (told.0 so_far.document)
+    refused_is_answered (Err (faults.Edit j f)) told = by (compare j n)
       where
         P : Change → Kinds → Type 0
         P x kinds = IsFault profile x kinds (Some f)
 
-        by : (j < n) ⊎ (j ≡ n) ⊎ (n < j) → IsFaultOrMemory (faults.Spread n) (Err (faults.Edit j f))
+        by : (j < n) ⊎ (j ≡ n) ⊎ (n < j) → IsFaultOrMemory (refusal n c) (Err (faults.Edit j f))
         by (inl low) = absurd (no_fault_before layout profile before cs n between mid so_far j (λ x kinds. IsFault profile x kinds (Some f)) (λ x kinds h. (f, h)) low told.1)
         by (inr (inl same)) =
             let h = here (λ x kinds. IsFault profile x kinds (Some f))
             (subst (λ k. OnDataSoFar profile before cs k (λ x kinds. IsFault profile x kinds (Some f))) same told.1) in
             absurd (none f h.0)
         by (inr (inr high)) = absurd (passed_at j (λ x kinds. IsFault profile x kinds (Some f)) told.1 high told.2)
-    spread_is_answered (Err (faults.Spread j)) told = by (compare j n)
+    refused_is_answered (Err (faults.Spread j)) told = by (compare j n)
       where
-        by : (j < n) ⊎ (j ≡ n) ⊎ (n < j) → IsFaultOrMemory (faults.Spread n) (Err (faults.Spread j))
+        by : (j < n) ⊎ (j ≡ n) ⊎ (n < j) → IsFaultOrMemory (refusal n c) (Err (faults.Spread j))
         by (inl low) =
             let (x, x_is) = edit_at profile before cs j (OfDefined profile MayBeSpread) told.1 in
-            absurd (no_spread_before layout profile before cs n between mid so_far j x x_is low told.2)
-        by (inr (inl same)) = inl (ap (λ k. Err (faults.Spread k)) same)
+            absurd (not_refused_before layout profile before cs n between mid so_far j x x_is low told.2)
+        by (inr (inl same)) =
+            let may = here (OfDefined profile MayBeSpread) (subst (λ k. OnDataSoFar profile before cs k (OfDefined profile MayBeSpread)) same told.1) in
+            inl (ap (λ k. Err (faults.Spread k)) same ∙ ap Err (of_spread c may.1))
         by (inr (inr high)) = absurd (passed_at j (OfDefined profile MayBeSpread) told.1 high told.3)
-    spread_is_answered (Err (faults.LastElement j)) told = by (compare j n)
+    refused_is_answered (Err (faults.LastElement j)) told = by (compare j n)
       where
-        by : (j < n) ⊎ (j ≡ n) ⊎ (n < j) → IsFaultOrMemory (faults.Spread n) (Err (faults.LastElement j))
+        by : (j < n) ⊎ (j ≡ n) ⊎ (n < j) → IsFaultOrMemory (refusal n c) (Err (faults.LastElement j))
         by (inl low) =
             let (x, x_is) = edit_at profile before cs j (OfDefined profile TakesLastElement) told.1 in
-            absurd (no_spread_before layout profile before cs n between mid so_far j x x_is low told.2)
+            absurd (not_refused_before layout profile before cs n between mid so_far j x x_is low told.2)
         by (inr (inl same)) =
             let takes = here (OfDefined profile TakesLastElement) (subst (λ k. OnDataSoFar profile before cs k (OfDefined profile TakesLastElement)) same told.1) in
-            absurd (takes_none c spread takes.1)
+            inl (ap (λ k. Err (faults.LastElement k)) same ∙ ap Err (of_last c takes.1))
         by (inr (inr high)) = absurd (passed_at j (OfDefined profile TakesLastElement) told.1 high told.3)
-    spread_is_answered (Err faults.TooLong) told = absurd (passed_all told.0.1 told.2)
-    spread_is_answered (Err (faults.Unverified r)) told = absurd (passed_all told.0.1 told.2)
-    spread_is_answered (Err faults.NoMemory) told = inr refl
+    refused_is_answered (Err faults.TooLong) told = absurd (passed_all told.0.1 told.2)
+    refused_is_answered (Err (faults.Unverified r)) told = absurd (passed_all told.0.1 told.2)
+    refused_is_answered (Err faults.NoMemory) told = inr refl
 
 pub first_fault_is_answered : FirstFaultIsAnswered
 first_fault_is_answered layout profile before cs n between mid so_far c is fault h = faulty_is_answered layout profile before cs n between mid so_far c is fault h
 
-pub first_spread_is_answered : FirstSpreadIsAnswered
-first_spread_is_answered layout profile before cs n between mid so_far c is none spread =
-    spread_is_answered layout profile before cs n between mid so_far c is none spread
+pub first_refused_is_answered : FirstRefusedIsAnswered
+first_refused_is_answered layout profile before cs n between mid so_far c is none refused =
+    refused_is_answered layout profile before cs n between mid so_far c is none refused

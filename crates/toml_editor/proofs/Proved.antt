@@ -27,5 +27,5 @@ pub use Rattle.toml_editor.proofs.written.UnitsListed.{list_is_carried}
 pub use Rattle.toml_editor.proofs.written.Certify.{partners_certify, outer_partners_certify, plain_list_is_certified}
 pub use Rattle.toml_editor.proofs.written.OuterPairs.{outer_are_named}
 pub use Rattle.toml_editor.proofs.written.HeadersRenamed.{rename_along_header, rename_along_element}
-pub use Rattle.toml_editor.proofs.PlainAnswers.{plain_is_answered, long_is_answered, first_fault_is_answered, first_spread_is_answered}
+pub use Rattle.toml_editor.proofs.PlainAnswers.{plain_is_answered, long_is_answered, first_fault_is_answered, first_refused_is_answered}
 pub use Rattle.toml_editor.proofs.OneChanged.{one_change}

@@ -64,6 +64,7 @@ pub mod InsertStands
 pub mod Inside
 pub mod KeptApart
 pub mod LastBare
+pub mod LastRefused
 pub mod LastLines
 pub mod Made
 pub mod Members
@@ -71,6 +72,7 @@ pub mod Moved
 pub mod Nested
 pub mod OnePlace
 pub mod OneSection
+pub mod OnlyElement
 pub mod OuterPairs
 pub mod PairsClear
 pub mod Pairwise

@@ -21,7 +21,7 @@ use Rattle.toml_checker.specs.Findings.{IsFirstUnmet}
 use Rattle.toml_checker.specs.Outer.{IsOuter}
 use Rattle.toml_checker.specs.Pairs.{IsFirst}
 use Rattle.toml_editor.specs.LastTexts.{WritesLast}
-use Rattle.toml_editor.specs.PlainTexts.{IsNoPlainList, IsNeitherPlainNorHeld, NoneIsSpread, WritesPlain}
+use Rattle.toml_editor.specs.PlainTexts.{IsNoPlainList, IsNeitherPlainNorHeld, NoneIsRefused, WritesPlain}
 use Rattle.toml_working.specs.Tidy.{ArePieces}
 use Rattle.toml_layout.specs.declared.layout.Layout.{Layout}
 use Rattle.toml_layout.specs.declared.layout.Layout.TheVariants as layouts
@@ -33,14 +33,14 @@ abbrev pub NamesOuter : List ℕ → List Change → List (ℕ × ℕ) → Type 
 NamesOuter before cs ps = OfTree before (λ d. (i : ℕ) → IsFirst ps i ↔ IsOuter cs (units d.lines) i)
 
 -- The text is certified to be what the edits make of the first one, by pairs that name the outer protected units. Of plain edits it is
--- the one that they write in the layout, and none of the edits, where those before it are plain, has a place that is spread. Of a last edit
--- behind plain ones, which changes an array or an inline table in the value of a line, it is told what is written.
+-- the one that they write in the layout, and none of the edits, where those before it are plain, has a place that is spread, or takes a
+-- last element. Of a last edit behind plain ones, which changes an array or an inline table in the value of a line, it is told what is written.
 pub record IsEditedWith (layout : Layout) (profile : Profile) (before : List ℕ) (cs : List Change) (after : List ℕ) (ps : List (ℕ × ℕ)) : Type 0
   where
     pub certified : Certified profile before cs after ps
     pub outer : NamesOuter before cs ps
     pub plain : WritesPlain layout profile before cs after
-    pub passed : NoneIsSpread layout profile before cs (length cs)
+    pub passed : NoneIsRefused layout profile before cs (length cs)
     pub last : WritesLast layout profile before cs after
 
 -- in layout `Plain`
@@ -74,6 +74,10 @@ abbrev pub TakesLastElement : Change → Kinds → Type 0
 TakesLastElement (remove at) kinds = (q : Address) × (at ≡ element q 0) × IsSome (kinds at) × (kinds (element q 1) ≡ None)
 TakesLastElement _ kinds = ⊥
 
+-- by the data an edit that is not made may be refused for it: its place is spread, or it takes a last element
+abbrev pub MayBeRefused : Change → Kinds → Type 0
+MayBeRefused c kinds = MayBeSpread c kinds ⊎ TakesLastElement c kinds
+
 -- the edit is defined on the data, and P holds of it
 abbrev pub OfDefined : Profile → (Change → Kinds → Type 0) → Change → Kinds → Type 0
 OfDefined profile P c kinds = IsFault profile c kinds None × P c kinds
@@ -97,22 +101,22 @@ AreDefinedOn profile before cs = IsDocumentIn profile before × OfData before (A
 -- is too long: all edits are defined, and where they are plain, what they write is too long. That the judge refuses it: all edits are
 -- defined, the list is not one of plain edits, and the reason is the first demand that no certificate meets of some text. That this is the
 -- text which was made says `certify` alone: here `AfterRefused` can always be told, by the text `=`. And each time that no edit before, or
--- of the list, has a place that is spread, if those before it are plain. Of want of memory: nothing.
+-- of the list, has a place that is spread, or takes a last element, if those before it are plain. Of want of memory: nothing.
 abbrev pub TellsWith : Layout → Profile → List ℕ → List Change → EditorFault → Type 0
 TellsWith layout profile before cs (Edit index fault) =
     IsDocumentIn profile before × OnDataSoFar profile before cs index (λ c kinds. IsFault profile c kinds (Some fault))
-    × NoneIsSpread layout profile before cs index
+    × NoneIsRefused layout profile before cs index
 TellsWith layout profile before cs (Spread index) =
     IsDocumentIn profile before × OnDataSoFar profile before cs index (OfDefined profile MayBeSpread)
-    × IsNeitherPlainNorHeld layout profile before cs index × NoneIsSpread layout profile before cs index
+    × IsNeitherPlainNorHeld layout profile before cs index × NoneIsRefused layout profile before cs index
 TellsWith layout profile before cs (LastElement index) =
     IsDocumentIn profile before × OnDataSoFar profile before cs index (OfDefined profile TakesLastElement)
-    × IsNeitherPlainNorHeld layout profile before cs index × NoneIsSpread layout profile before cs index
+    × IsNeitherPlainNorHeld layout profile before cs index × NoneIsRefused layout profile before cs index
 TellsWith layout profile before cs TooLong =
     AreDefinedOn profile before cs × ((after : List ℕ) × WritesPlain layout profile before cs after × (max_len < length after))
-    × NoneIsSpread layout profile before cs (length cs)
+    × NoneIsRefused layout profile before cs (length cs)
 TellsWith layout profile before cs (Unverified reason) =
-    AreDefinedOn profile before cs × IsNoPlainList layout profile before cs × NoneIsSpread layout profile before cs (length cs)
+    AreDefinedOn profile before cs × IsNoPlainList layout profile before cs × NoneIsRefused layout profile before cs (length cs)
     × ((after : List ℕ) × IsText after × IsFirstUnmet profile before cs after reason)
 TellsWith layout profile before cs fault = RefusesText profile before fault
 

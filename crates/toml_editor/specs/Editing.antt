@@ -11,7 +11,7 @@ use Rattle.toml_checker.specs.Findings.{IsFirstUnmet}
 use Rattle.toml_editor.specs.Edited.{AreDefinedOn, IsEditedWith}
 use Rattle.toml_working.specs.Tidy.{ArePieces}
 use Rattle.toml_editor.specs.LastTexts.{WritesLast}
-use Rattle.toml_editor.specs.PlainTexts.{NoneIsSpread, WritesPlain}
+use Rattle.toml_editor.specs.PlainTexts.{NoneIsRefused, WritesPlain}
 use Rattle.toml_editor.specs.declared.editing.Edited.{Edited}
 use Rattle.toml_editor.specs.declared.editing.Unjudged.{Unjudged}
 use Rattle.toml_editor.specs.declared.fault.EditorFault.{EditorFault}
@@ -31,11 +31,11 @@ pub record IsReadFrom (text : List ℕ) (read : Read) (known : List LineFacts) :
   pub facts : AreFacts read.before known
 
 -- The edits are defined on the data of the first text, and the pieces of that text are the second one. Of plain edits that is the one
--- that they write in the layout, and none of the edits has a place that is spread.
+-- that they write in the layout, and none of the edits has a place that is spread, or takes a last element.
 pub record IsMadeText (layout : Layout) (profile : Profile) (before : List ℕ) (cs : List Change) (after : List ℕ) (list : List Piece) : Type 0 where
   pub are_defined : AreDefinedOn profile before cs
   pub plain : WritesPlain layout profile before cs after
-  pub passed : NoneIsSpread layout profile before cs (length cs)
+  pub passed : NoneIsRefused layout profile before cs (length cs)
   pub last : WritesLast layout profile before cs after
   pub pieces : ArePieces before after list
 

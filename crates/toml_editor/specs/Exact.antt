@@ -14,10 +14,10 @@ use Rattle.toml_names.specs.declared.model.address.Step.{Step}
 use Rattle.toml_names.specs.model.Addresses.{Address}
 use Rattle.toml_names.specs.model.Data.{Kinds}
 use Rattle.toml_edits.specs.After.{IsAfter}
-use Rattle.toml_edits.specs.Edits.{Change, insert, place, rename, set, remove, new_section, new_element}
+use Rattle.toml_edits.specs.Edits.{Change, insert, rename, set, remove, new_section, new_element}
 use Rattle.toml_edits.specs.Faults.{IsFault}
 use Rattle.toml_edits.specs.Lists.{Lead}
-use Rattle.toml_editor.specs.Edited.{MayBeSpread}
+use Rattle.toml_editor.specs.Edited.{MayBeRefused}
 use Rattle.toml_editor.specs.declared.fault.EditorFault.{EditorFault}
 use Rattle.toml_editor.specs.declared.fault.EditorFault.TheVariants.{Edit, LastElement, Spread}
 use Rattle.toml_working.specs.declared.working.Tree.{Tree}
@@ -32,10 +32,10 @@ use Rattle.toml_layout.specs.OpenOutlines.{leaf_text, value as open_outline}
 use Rattle.toml_working.specs.AddingHeaders.{TreeAddsHeader}
 use Rattle.toml_working.specs.Headers.{innermost}
 use Rattle.toml_working.specs.HeldLines.{HoldsLines, TakesFromValue}
-use Rattle.toml_editor.specs.PlainTexts.{IsPlainOrHeld, IsPlainOn, IsSpreadIn}
+use Rattle.toml_editor.specs.PlainTexts.{IsPlainOrHeld, IsPlainOn, IsRefusedIn}
 use Rattle.toml_working.specs.Putting.{TreeInserts, manner}
 use Rattle.toml_working.specs.Sections.{TreePutsBelow}
-use Rattle.toml_working.specs.RemovingIn.{RemovesLines}
+use Rattle.toml_working.specs.RemovingIn.{RemovesLines, TakesElement}
 use Rattle.toml_editor.specs.SpelledEdits.{AreSteps}
 use Rattle.toml_working.specs.Standing.{AreOrdered, Read, Standing, holds, standing}
 use Rattle.toml_working.specs.Stands.{KeepsRest, KeepsTexts, Stands, TreeSets}
@@ -118,13 +118,15 @@ pub record WritesRename (read : Read) (p : Address) (to : List ℕ) (old new : T
 -- What an edit makes of the working tree, where no element is gone: a `set` puts the value in, if one stands there, and tells whether;
 -- an `insert` of a name at the root, or in a table that has a header, puts its line in, a `remove` takes out the line of a value, or makes it
 -- the empty table right above where that would go with it, a `rename` gives lines the new name, a `section` and an `element` put their header
--- line in. Where an array or an inline table in the value of a line holds it, an `insert` and a `remove` change that.
+-- line in. Where an array or an inline table in the value of a line holds it, an `insert` and a `remove` change that. A `remove` of an element of
+-- an array of tables tells whether it is made.
 abbrev pub WritesEdit : Profile → Read → Change → Tree → Tree → Bool → Type 0
 WritesEdit profile read (set p text) old new done = NoneIsGone old.elements → KeepsRest old new × WritesSet profile read p text old new done
 WritesEdit profile read (insert p text) old new done = NoneIsGone old.elements
     → (steps : List (String Global)) × KeepsRest old new × AreSteps p steps × WritesInsert profile read p text steps old new
     × WritesInside profile read p text steps old new done × WritesBelow profile read p text steps old new
-WritesEdit profile read (remove p) old new done = NoneIsGone old.elements → RemovesLines p read old new × TakesFromValue p read old new done
+WritesEdit profile read (remove p) old new done = NoneIsGone old.elements
+    → RemovesLines p read old new × TakesFromValue p read old new done × TakesElement p read old done
 WritesEdit profile read (rename p to) old new done = NoneIsGone old.elements → WritesRename read p to old new
 WritesEdit profile read (new_section p) old new done = NoneIsGone old.elements
     → (steps : List (String Global)) × AreSteps p steps × KeepsTexts old new × WritesHeader One read p steps old new done
@@ -136,15 +138,11 @@ abbrev pub IsNeitherOn : Profile → Read → Change → Tree → Type 0
 IsNeitherOn profile read c tree = (text : List ℕ) (kinds now : Kinds) → IsAt profile read tree text kinds
     → IsFault profile c kinds None → IsAfter profile c kinds now → ¬ IsPlainOrHeld profile text c
 
--- by the data the place of the edit may be spread, and in the text it is
-abbrev pub IsSpreadOn : Profile → List ℕ → Change → Kinds → Type 0
-IsSpreadOn profile text c kinds = MayBeSpread c kinds × IsSpreadIn profile text c
-
--- The tree stands for no text in which the place of the edit, without a fault, is spread. Of the data those are known that are near the
--- edit.
+-- Where by the data near the edit it may be refused, the tree stands for no text in which it is refused without a fault: its place is
+-- spread, or it takes a last element.
 abbrev pub PassesOne : Profile → Read → Kinds → Change → Tree → Type 0
 PassesOne profile read near c tree = (text : List ℕ) (kinds now : Kinds) → IsAt profile read tree text kinds
-    → IsFault profile c kinds None → IsAfter profile c kinds now → near (place c) ≡ kinds (place c) → ¬ IsSpreadOn profile text c kinds
+    → IsFault profile c kinds None → IsAfter profile c kinds now → MayBeRefused c near → ¬ IsRefusedIn profile text c
 
 -- So it is of the edit with this number, if there is one without a fault and those before it are plain: of the text that these write of
 -- one for which the tree stands, and of its data.
@@ -154,12 +152,12 @@ OfPlain profile read cs tree k P = (c : Change) → slice_get cs k ≡ Some c �
     → ArePlain profile (take k cs) (manner tree) text
     → (between : List ℕ) → AreWritten profile (take k cs) (manner tree) text between → P c between mid
 
--- the place of the edit with this number, where those before it are plain, is not spread; of the data those are known that are near
+-- so it is of the edit with this number, where those before it are plain; of the data those are known that are near the edits
 abbrev pub PassesAt : Profile → Read → List Change → Kinds → Tree → ℕ → Type 0
 PassesAt profile read cs near tree k = (part : Kinds) × Lead profile (take k cs) near part
-    × OfPlain profile read cs tree k (λ c text kinds. part (place c) ≡ kinds (place c) → ¬ IsSpreadOn profile text c kinds)
+    × OfPlain profile read cs tree k (λ c text kinds. MayBeRefused c part → ¬ IsRefusedIn profile text c)
 
--- nor is that of any of the first so many
+-- and of each of the first so many
 abbrev pub PassesAll : Profile → Read → List Change → Kinds → ℕ → Tree → Type 0
 PassesAll profile read cs near n tree = (k : ℕ) → k < n → PassesAt profile read cs near tree k
 
@@ -178,7 +176,7 @@ HoldsLast profile read cs old new = (front : List Change) (c : Change) → cs �
     → (ts : List Standing) × Stands (text_of old.texts.source) read new.slots.items ts
     × ChangesLines (manner old).layout profile c (standing e.lines) ts
 
--- Of an edit that is made: what it makes where it is plain, and that its place is not spread;
+-- Of an edit that is made: what it makes where it is plain, and that it is not refused;
 pub record DoneOne (profile : Profile) (read : Read) (near : Kinds) (c : Change) (old new : Tree) : Type 0 where
   pub makes : MakesOne profile read c old new
   pub holds : HoldsOne profile read c old new
@@ -207,8 +205,8 @@ OfNoPlaceAt P (Spread i) = P i
 OfNoPlaceAt P (LastElement i) = P i
 OfNoPlaceAt P _ = Unit {0}
 
--- no edit before the one with the fault has a place that is spread, and that one is neither plain nor held, if it is told to be spread or to
--- take a last element
+-- no edit before the one with the fault has a place that is spread, or takes a last element, and that one is neither plain nor held, if it is
+-- told to be spread or to take a last element
 pub record Stops (profile : Profile) (read : Read) (cs : List Change) (near : Kinds) (tree : Tree) (fault : EditorFault) : Type 0 where
   pub passed : OfNumber (λ n. PassesAll profile read cs near n tree) fault
   pub spread : OfNoPlaceAt (λ j. IsNeitherAt profile read cs j tree) fault

@@ -6,17 +6,17 @@ use Rattle.toml_names.specs.mentions.Mentions.{named}
 use Rattle.toml_names.specs.model.Data.{IsDataOf, Kinds}
 use Rattle.toml_names.specs.model.Documents.{IsDocumentIn}
 use Rattle.toml_edits.specs.declared.fault.EditFault.{EditFault}
-use Rattle.toml_edits.specs.Edits.{Change}
+use Rattle.toml_edits.specs.Edits.{Change, remove}
 use Rattle.toml_edits.specs.Faults.{IsFault}
 use Rattle.toml_edits.specs.Lists.{Lead}
 use Rattle.toml_editor.specs.CertifiedLists.{ArePlain}
 use Rattle.toml_editor.specs.Edited.{IsEditedWith, TellsWith}
-use Rattle.toml_editor.specs.PlainTexts.{IsSpreadIn}
+use Rattle.toml_editor.specs.PlainTexts.{IsRefusedIn}
 use Rattle.toml_editor.specs.Steps.{AreWritten}
 use Rattle.toml_layout.specs.declared.layout.Layout.{Layout}
 use Rattle.toml_working.specs.Manners.{manner_of}
 use Rattle.toml_editor.specs.declared.fault.EditorFault.{EditorFault}
-use Rattle.toml_editor.specs.declared.fault.EditorFault.TheVariants.{Edit, Spread, TooLong, NoMemory}
+use Rattle.toml_editor.specs.declared.fault.EditorFault.TheVariants.{Edit, LastElement, Spread, TooLong, NoMemory}
 
 -- So many edits of a list, from the first on, have no fault on a document and are plain, each on the text written so far; this is the
 -- text that they write, and these are its data. There is such a text (`PlainListIsCertified`), and no other (`OneListWritten`). The
@@ -37,6 +37,11 @@ IsAnswer layout profile before cs (Err fault) = TellsWith layout profile before 
 -- the answer is this fault, or want of memory
 abbrev pub IsFaultOrMemory : EditorFault → Result (List ℕ × List (ℕ × ℕ)) EditorFault → Type 0
 IsFaultOrMemory fault answer = (answer ≡ Err fault) ⊎ (answer ≡ Err NoMemory)
+
+-- how the edit with this number is refused, if it has no fault: a `remove` with 308, another with 307
+abbrev pub refusal : ℕ → Change → EditorFault
+refusal n (remove p) = LastElement n
+refusal n _ = Spread n
 
 -- Laws, want of memory aside. Where all edits are defined on the data so far and plain, the answer is the text that they write, if it is
 -- within the limit;
@@ -59,10 +64,10 @@ FirstFaultIsAnswered = (layout : Layout) (profile : Profile) (before : List ℕ)
     → IsFault profile c mid (Some fault) → (answer : Result (List ℕ × List (ℕ × ℕ)) EditorFault) → IsAnswer layout profile before cs answer
     → IsFaultOrMemory (Edit n fault) answer
 
--- and where it has none, but the text so far has no one place for it, as `IsSpreadIn` has it of a `set`, a `section` and an `element`, the
--- answer is that its place is spread, with its number.
-abbrev pub FirstSpreadIsAnswered : Type 0
-FirstSpreadIsAnswered = (layout : Layout) (profile : Profile) (before : List ℕ) (cs : List Change) (n : ℕ) (between : List ℕ) (mid : Kinds)
+-- and where it has none, but on the text so far it is refused, as `IsRefusedIn` has it, the answer is, with its number: of a `set`, a
+-- `section` and an `element` that its place is spread, of a `remove` that it takes a last element.
+abbrev pub FirstRefusedIsAnswered : Type 0
+FirstRefusedIsAnswered = (layout : Layout) (profile : Profile) (before : List ℕ) (cs : List Change) (n : ℕ) (between : List ℕ) (mid : Kinds)
     → PlainSoFar layout profile before cs n between mid → (c : Change) → slice_get cs n ≡ Some c → IsFault profile c mid None
-    → IsSpreadIn profile between c → (answer : Result (List ℕ × List (ℕ × ℕ)) EditorFault) → IsAnswer layout profile before cs answer
-    → IsFaultOrMemory (Spread n) answer
+    → IsRefusedIn profile between c → (answer : Result (List ℕ × List (ℕ × ℕ)) EditorFault) → IsAnswer layout profile before cs answer
+    → IsFaultOrMemory (refusal n c) answer

@@ -1,11 +1,11 @@
 -- The text that is handed out of plain edits in a layout: the one that they write, byte for byte.
-use Rattle.std.specs.Prelude.{◌≡◌, ◌⊎◌, ◌<◌, ℕ, List, [], ◌∷◌, ◌++◌, take, Some, None, slice_get}
+use Rattle.std.specs.Prelude.{◌≡◌, ◌⊎◌, ◌<◌, ℕ, List, [], ◌∷◌, ◌++◌, take, Some, None, Any, slice_get}
 use Rattle.toml_tree.specs.Profiles.{SpellsIn}
 use Rattle.toml_tree.specs.Tree.{Doc, Line}
 use Rattle.toml_tree.specs.declared.profile.Profile.{Profile}
 use Rattle.toml_names.specs.mentions.Mentions.{named}
 use Rattle.toml_names.specs.declared.model.address.Step.{Step}
-use Rattle.toml_names.specs.model.Addresses.{Address}
+use Rattle.toml_names.specs.model.Addresses.{Address, element}
 use Rattle.toml_names.specs.model.Data.{IsDataOf, Kinds}
 use Rattle.toml_checker.specs.Documents.{OfTree}
 use Rattle.toml_edits.specs.After.{IsAfter}
@@ -34,13 +34,16 @@ IsNoPlainList layout profile before cs =
 abbrev pub IsPlainOn : Profile → List ℕ → Change → Type 0
 IsPlainOn profile text c = (d : Doc) → SpellsIn profile d text → IsPlain d.lines c
 
--- The text has no one place for the edit. A `set`: no single value stands at its address, as where headers, dotted keys or lines of a table
--- make what is there. A `section` and an `element`: a line's value stands above the address.
-abbrev pub IsSpreadIn : Profile → List ℕ → Change → Type 0
-IsSpreadIn profile text (set p value) = (d : Doc) → SpellsIn profile d text → ¬ HasValue d.lines p
-IsSpreadIn profile text (new_section p) = (q : Address) × (s : Step) × (p ≡ q ++ s ∷ []) × ((d : Doc) → SpellsIn profile d text → ¬ IsInNoValue d.lines q)
-IsSpreadIn profile text (new_element p) = (q : Address) × (s : Step) × (p ≡ q ++ s ∷ []) × ((d : Doc) → SpellsIn profile d text → ¬ IsInNoValue d.lines q)
-IsSpreadIn profile text _ = ⊥
+-- The text has no one place for the edit, or the edit takes a last element. A `set`: no single value stands at its address, as where headers,
+-- dotted keys or lines of a table make what is there. A `section` and an `element`: a line's value stands above the address. A `remove` of
+-- the only element of an array of tables: no line's value stands at the array or above it, and the lines name no second element.
+abbrev pub IsRefusedIn : Profile → List ℕ → Change → Type 0
+IsRefusedIn profile text (set p value) = (d : Doc) → SpellsIn profile d text → ¬ HasValue d.lines p
+IsRefusedIn profile text (new_section p) = (q : Address) × (s : Step) × (p ≡ q ++ s ∷ []) × ((d : Doc) → SpellsIn profile d text → ¬ IsInNoValue d.lines q)
+IsRefusedIn profile text (new_element p) = (q : Address) × (s : Step) × (p ≡ q ++ s ∷ []) × ((d : Doc) → SpellsIn profile d text → ¬ IsInNoValue d.lines q)
+IsRefusedIn profile text (remove p) = (q : Address) × (p ≡ element q 0) × ((d : Doc) → SpellsIn profile d text
+    → IsInNoValue d.lines q × (¬ Any (λ m. m.address ≡ element q 1) (named d.lines)))
+IsRefusedIn profile text _ = ⊥
 
 -- `P` holds of the edit with this number and of the text before it, if the edit is defined and those before it are defined and plain.
 abbrev pub AfterPlain : Layout → Profile → List ℕ → List Change → Doc → ℕ → (Change → List ℕ → Type 0) → Type 0
@@ -49,10 +52,10 @@ AfterPlain layout profile before cs d k P = (c : Change) → slice_get cs k ≡ 
     → ArePlain profile (take k cs) (manner_of layout d.lines) before
     → (between : List ℕ) → AreWritten profile (take k cs) (manner_of layout d.lines) before between → P c between
 
--- of the first so many edits none, where those before it are plain, has a place that is spread
-abbrev pub NoneIsSpread : Layout → Profile → List ℕ → List Change → ℕ → Type 0
-NoneIsSpread layout profile before cs n =
-    OfTree before (λ d. (k : ℕ) → k < n → AfterPlain layout profile before cs d k (λ c text. ¬ IsSpreadIn profile text c))
+-- of the first so many edits none, where those before it are plain, is so refused
+abbrev pub NoneIsRefused : Layout → Profile → List ℕ → List Change → ℕ → Type 0
+NoneIsRefused layout profile before cs n =
+    OfTree before (λ d. (k : ℕ) → k < n → AfterPlain layout profile before cs d k (λ c text. ¬ IsRefusedIn profile text c))
 
 -- an array or an inline table in the value of a line holds what the edit puts in or takes out; what is put in at the root is in none
 abbrev pub HasContainerFor : List Line → Change → Type 0

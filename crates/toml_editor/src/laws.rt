@@ -4,7 +4,7 @@ ghost use Rattle.toml_editor.specs.CarriedUnits.{PlainIsCarried};
 ghost use Rattle.toml_editor.specs.CarriedLists.{FirstBlankNeedsNewline, ListIsCarried};
 ghost use Rattle.toml_editor.specs.CertifiedLists.{PartnersCertify, OuterAreNamed, OuterPartnersCertify, PlainListIsCertified};
 ghost use Rattle.toml_editor.specs.ChangedUnits.{SetUnits};
-ghost use Rattle.toml_editor.specs.PlainAnswers.{FirstFaultIsAnswered, FirstSpreadIsAnswered, LongIsAnswered, PlainIsAnswered};
+ghost use Rattle.toml_editor.specs.PlainAnswers.{FirstFaultIsAnswered, FirstRefusedIsAnswered, LongIsAnswered, PlainIsAnswered};
 ghost use Rattle.toml_editor.specs.LastTexts.{OneChange};
 ghost use Rattle.toml_editor.specs.HeaderLaws.{ElementIsLaidOut, ElementNames, ElementUnits, DocumentsAreReady, SectionIsLaidOut, SectionNames, SectionUnits, ValueIsPlace};
 ghost use Rattle.toml_editor.specs.InsertLaws.{InsertNames, InsertRules, InsertShort, InsertData, InsertForms, InsertOfProfile, InsertKeepsLines};
@@ -233,12 +233,12 @@ pub fn standing_removed()
 /// text that they write, if it is within the limit of a text, and else that it is too long. Where the edits before one are so,
 /// and it is not defined, it is that edit's fault with its number; where it is defined, but a `set` of an address where the text so
 /// far has no one value, or a `section` or an `element` above which a line's value stands, it is that its place is spread, with its
-/// number.
+/// number; where it is a `remove` of the only element of an array of tables, it is that it takes a last element, with its number.
 pub fn plain_answers()
     ensures plain { PlainIsAnswered }
     ensures long { LongIsAnswered }
     ensures fault { FirstFaultIsAnswered }
-    ensures spread { FirstSpreadIsAnswered }
+    ensures refused { FirstRefusedIsAnswered }
 {}
 
 /// Where the working tree stands for the lines of a tree, the mark and the text of these lines are written: of the lines of

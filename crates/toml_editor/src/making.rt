@@ -1,8 +1,8 @@
 //! One edit after the other, on the data and on the working tree.
 ghost use Rattle.std.specs.Prelude.{◌≡◌, IfErr, IfOk, IsTrue, OnOk, false, map, option_copied, ◌&&◌, not};
 ghost use Rattle.toml_scalar.specs.Spelling.{spelled};
-ghost use Rattle.toml_edits.specs.Drafts.{drafted};
-ghost use Rattle.toml_edits.specs.Edits.{change};
+ghost use Rattle.toml_edits.specs.Drafts.{IsReadyAt, drafted};
+ghost use Rattle.toml_edits.specs.Edits.{change, place as place_of};
 ghost use Rattle.toml_editor.specs.Edited.{TakesLastElement, MayBeSpread};
 ghost use Rattle.toml_editor.specs.Exact.{WritesBelow, WritesEdit, WritesHeader, WritesInsert, WritesInside, WritesRename, WritesSet};
 ghost use Rattle.toml_editor.specs.Made.{MakesEdit, MakesEdits, RefusesEdit, RefusesEdits};
@@ -30,8 +30,9 @@ pub(crate) struct Read<'a, 't> {
 
 /// Makes the edits. The first one that is not defined on the data so far, or whose place is spread, or that would leave an
 /// array of tables without an element, is told with its number. Where the edits before it are plain, none that is made sets a
-/// table or an array of which the text has no one value, or puts a header line in below a line's value; and one that is told to be spread, or to take a last element, is not plain, nor held by an array or an inline
-/// table in a value.
+/// table or an array of which the text has no one value, puts a header line in below a line's value, or takes out the only
+/// element of an array of tables; and one that is told to be spread, or to take a last element, is not plain, nor held by an
+/// array or an inline table in a value.
 pub(crate) fn make_all<'x>(
     alloc: Global,
     tree: &mut Tree<'x>,
@@ -83,6 +84,7 @@ fn make_here<'x>(
     index: usize,
 ) -> Result<(), EditorFault>
     requires names { HasNames read }
+    requires ready { IsReadyAt draft.old (place_of (change edit.now)) }
     requires spelled { IsSpelled (change edit.now) spelled.now }
     ensures made { OnOk result (MakesEdit read.entry (change edit.now) draft.old draft.new tree.old tree.new) }
     ensures told { IfErr result (RefusesEdit read.entry index (change edit.now) draft.old tree.old) }
@@ -292,9 +294,11 @@ fn is_many(found: Option<&Datum>) -> bool
     }
 }
 
-/// Whether the edit removes the only element of an array.
+/// Whether the edit removes the only element of an array; the data were turned to it.
 fn is_only_element(draft: &Draft, edit: &Edit) -> bool
-    ensures { IsTrue result → TakesLastElement (change edit.now) (drafted draft.now) }
+    requires { IsReadyAt draft.now (place_of (change edit.now)) }
+    ensures yes { IsTrue result → TakesLastElement (change edit.now) (drafted draft.now) }
+    ensures no { result ≡ false → ¬ TakesLastElement (change edit.now) (drafted draft.now) }
 {
     match edit {
         Edit::Remove { at } => draft.is_only(at),

@@ -43,7 +43,7 @@ name_is_no_element [] name = refl
 name_is_no_element (s ∷ []) name = refl
 name_is_no_element (s ∷ t ∷ q) name = ap (option_map (λ e. (s ∷ e.0, e.1))) (name_is_no_element (t ∷ q) name)
 
-index_is_element : (q : Address) (i : ℕ) → is_some (element_of (element q i)) ≡ true
+pub index_is_element : (q : Address) (i : ℕ) → is_some (element_of (element q i)) ≡ true
 index_is_element [] i = refl
 index_is_element (s ∷ []) i = refl
 index_is_element (s ∷ t ∷ q) i = by (element_of (element (t ∷ q) i)) (index_is_element (t ∷ q) i)

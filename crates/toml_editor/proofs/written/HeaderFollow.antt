@@ -39,7 +39,7 @@ use Rattle.toml_working.specs.Starting.{NoneIsGone}
 use Rattle.toml_working.specs.Premises.{IsInNoValue}
 use Rattle.toml_editor.specs.EditedLines.{with_header, manner_behind}
 use Rattle.toml_editor.specs.Exact.{Follows, IsAt, WritesHeader}
-use Rattle.toml_editor.specs.PlainTexts.{IsSpreadIn}
+use Rattle.toml_editor.specs.PlainTexts.{IsRefusedIn}
 use Rattle.toml_editor.specs.SpelledEdits.{AreSteps, step_spelled}
 use Rattle.toml_editor.specs.Steps.{IsPlain}
 use Rattle.toml_editor.proofs.written.Closed.{no_end}
@@ -182,14 +182,14 @@ refused profile read old new brackets p q last text kinds at own array steps spe
 -- so it is of a section
 pub section_refused : (profile : Profile) (read : Read) (old new : Tree) (p : Address) (text : List ℕ) (kinds : Kinds) → IsAt profile read old text kinds
     → IsFault profile (new_section p) kinds None → (steps : List (String Global)) → AreSteps p steps → (done : Bool)
-    → WritesHeader One read p steps old new done → IsSpreadIn profile text (new_section p) → done ≡ false
+    → WritesHeader One read p steps old new done → IsRefusedIn profile text (new_section p) → done ≡ false
 section_refused profile read old new p text kinds at none steps spells done puts (q, last, own, inside) =
     refused profile read old new One p q last text kinds at own (below_root q p last own (λ i is. none NotAName ([], i, is))) steps spells done puts inside
 
 -- and of an element
 pub element_refused : (profile : Profile) (read : Read) (old new : Tree) (p : Address) (text : List ℕ) (kinds : Kinds) → IsAt profile read old text kinds
     → IsFault profile (new_element p) kinds None → (steps : List (String Global)) → AreSteps p steps → (done : Bool)
-    → WritesHeader Two read p steps old new done → IsSpreadIn profile text (new_element p) → done ≡ false
+    → WritesHeader Two read p steps old new done → IsRefusedIn profile text (new_element p) → done ≡ false
 element_refused profile read old new p text kinds at none steps spells done puts (q, last, own, inside) =
     refused profile read old new Two p q last text kinds at own
     (below_root q p last own (λ i is. none NotAnElement (λ r n j other. not_long r n i j (sym is ∙ other)))) steps spells done puts inside

@@ -1,5 +1,7 @@
--- Where the data have a scalar, the lines have one value: only a table and an array can be spread over several.
-use Rattle.std.proofs.Common.{◌≡◌, inl, inr, ℕ, ◌+◌, true, List, [], ◌∷◌, ◌++◌, Option, Some, None, refl}
+-- Where the data have a scalar, the lines have one value: only a table and an array can be spread over several. What is refused of the lines
+-- may be refused by the data.
+use Rattle.std.proofs.Common.{◌≡◌, inl, inr, ℕ, ◌+◌, true, List, [], ◌∷◌, ◌++◌, Option, Some, None, refl, ap}
+use Rattle.std.specs.Prelude.{Any, IsSome, is_some}
 use Rattle.toml_scalar.specs.Values.{ScalarValue}
 use Rattle.toml_tree.specs.Spells.{EachIs}
 use Rattle.toml_tree.specs.Tree.{Value, Scalar, Array, Inline, Items, Close, Last, More, Pairs, ClosePairs, LastPair, MorePairs, Assign, Expr, BlankLine, KeyValLine, TableLine, ArrayTableLine, Line}
@@ -8,12 +10,12 @@ use Rattle.toml_names.specs.mentions.Joining.{is_lone}
 use Rattle.toml_names.specs.mentions.Keys.{Key, key_names}
 use Rattle.toml_names.specs.mentions.Mentions.{Kind, a_table, an_array, a_scalar, Named, named, named_by, named_from, root, section, fronts, pair_named, inside, elements, members, entered, followed, ends_table, ends_tables}
 use Rattle.toml_names.specs.model.Addresses.{Address, child, element, below}
-use Rattle.toml_names.specs.model.Data.{IsFact, Kinds}
+use Rattle.toml_names.specs.model.Data.{IsDataOf, IsFact, Kinds}
 use Rattle.toml_edits.specs.declared.fault.EditFault.TheVariants.{NoSuchPlace}
 use Rattle.toml_edits.specs.Edits.{Change, set, insert, rename, remove, new_section, new_element}
 use Rattle.toml_edits.specs.Faults.{IsFault}
-use Rattle.toml_editor.specs.Edited.{MayBeSpread}
-use Rattle.toml_editor.specs.PlainTexts.{IsSpreadIn}
+use Rattle.toml_editor.specs.Edited.{MayBeRefused}
+use Rattle.toml_editor.specs.PlainTexts.{IsRefusedIn}
 use Rattle.toml_editor.specs.Steps.{IsGoodText}
 use Rattle.toml_working.specs.Premises.{HasValue}
 use Rattle.toml_editor.proofs.Each.{each_append}
@@ -77,18 +79,36 @@ scalar_has_value lines p v fact =
     (has_each IsLone (λ m. (m.address ≡ p) × (m.kind ≡ a_scalar v)) (λ m. (m.address ≡ p) × (is_lone m.role ≡ true)) (λ m lone at. (at.0, lone v at.1))
     (named lines) (from_lone lines (root ∷ []) 0 ((λ w is. cc), tt)) (has_of_any _ (named lines) fact))
 
--- where the lines have no one place for an edit without a fault, a `set` is of a table or an array
-pub may_lack : (profile : Profile) (text : List ℕ) (kinds : Kinds) (c : Change) → IsGoodText profile text kinds → IsFault profile c kinds None
-    → IsSpreadIn profile text c → MayBeSpread c kinds
-may_lack profile text kinds (set p value) good none spread = by (kinds p) refl
+-- what is removed without a fault is there
+pub is_there : (profile : Profile) (kinds : Kinds) (p : Address) → IsFault profile (remove p) kinds None → IsSome (kinds p)
+is_there profile kinds p none = by (kinds p) refl
   where
-    by : (there : Option Kind) → kinds p ≡ there → MayBeSpread (set p value) kinds
+    by : (found : Option Kind) → kinds p ≡ found → IsSome (kinds p)
     by None is = absurd (none NoSuchPlace is)
-    by (Some a_table) is = inl is
-    by (Some an_array) is = inr is
+    by (Some k) is = ap is_some is
+
+-- what the lines do not name is not there
+pub is_not_there : (lines : List Line) (kinds : Kinds) (p : Address) → IsDataOf (named lines) kinds → (¬ Any (λ m. m.address ≡ p) (named lines)) → kinds p ≡ None
+is_not_there lines kinds p facts unnamed = by (kinds p) refl
+  where
+    by : (found : Option Kind) → kinds p ≡ found → kinds p ≡ None
+    by None is = is
+    by (Some k) is = let (n, m, low, at, named_so) = (facts p k).0 is in absurd (unnamed (n, m, low, at, named_so.0))
+
+-- Where the lines have no one place for an edit without a fault, a `set` is of a table or an array; and what takes a last element of them
+-- takes it of the data.
+pub may_be_refused : (profile : Profile) (text : List ℕ) (kinds : Kinds) (c : Change) → IsGoodText profile text kinds → IsFault profile c kinds None
+    → IsRefusedIn profile text c → MayBeRefused c kinds
+may_be_refused profile text kinds (set p value) good none spread = by (kinds p) refl
+  where
+    by : (there : Option Kind) → kinds p ≡ there → MayBeRefused (set p value) kinds
+    by None is = absurd (none NoSuchPlace is)
+    by (Some a_table) is = inl (inl is)
+    by (Some an_array) is = inl (inr is)
     by (Some (a_scalar v)) is = absurd (spread good.tree good.spelled (scalar_has_value good.tree.lines p v ((good.facts p (a_scalar v)).0 is)))
-may_lack profile text kinds (insert p value) good none spread = absurd spread
-may_lack profile text kinds (rename p to) good none spread = absurd spread
-may_lack profile text kinds (remove p) good none spread = absurd spread
-may_lack profile text kinds (new_section p) good none spread = tt
-may_lack profile text kinds (new_element p) good none spread = tt
+may_be_refused profile text kinds (insert p value) good none spread = absurd spread
+may_be_refused profile text kinds (rename p to) good none spread = absurd spread
+may_be_refused profile text kinds (remove p) good none (q, own, only) =
+    inr (q, own, is_there profile kinds p none, is_not_there good.tree.lines kinds (element q 1) good.facts (only good.tree good.spelled).1)
+may_be_refused profile text kinds (new_section p) good none spread = inl tt
+may_be_refused profile text kinds (new_element p) good none spread = inl tt

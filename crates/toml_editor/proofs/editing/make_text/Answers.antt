@@ -15,7 +15,7 @@ use Rattle.toml_editor.proofs.Answered.{if_ok_two}
 use Rattle.toml_editor.proofs.Judgements.{any_tells}
 use Rattle.toml_editor.proofs.NearFaults.{any_of_all, has_data}
 use Rattle.toml_editor.proofs.SourceKept.{as_read}
-use Rattle.toml_editor.proofs.PassedSpread.{none_is_spread, stops_told}
+use Rattle.toml_editor.proofs.PassedSpread.{none_is_refused, stops_told}
 use Rattle.toml_editor.proofs.ReadDocuments.{is_document, is_read_of, spelled, tree}
 use Rattle.toml_editor.proofs.PlainMade.{last_written, plain_written}
 use Rattle.toml_editor.proofs.editing.make_text.Goals as goal
@@ -74,7 +74,7 @@ returns-in-Ok-make_all-clause-made c =
           (beside (is_hidden c.args.touched.now) old new) c.make_all.new.tree (string_bytes made.text) facts leads
           c.in-Ok-make_all.ensures.made.done.holds written;
       passed =
-          none_is_spread profile (read_of c.args.read.before) d text c.in-Ok.tree document
+          none_is_refused profile (read_of c.args.read.before) d text c.in-Ok.tree document
           spells opened.stands (ap (λ (t : Texts). text_of t.source) opened.texts_are) opened.elements c.args.layout mannered
           (is_hidden c.args.touched.now) cs c.requires.touched old facts part near
           (length cs) c.in-Ok-make_all.ensures.made.done.passes;

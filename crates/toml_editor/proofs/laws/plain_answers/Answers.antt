@@ -1,4 +1,4 @@
-use Rattle.toml_editor.proofs.PlainAnswers.{first_fault_is_answered, first_spread_is_answered, long_is_answered, plain_is_answered}
+use Rattle.toml_editor.proofs.PlainAnswers.{first_fault_is_answered, first_refused_is_answered, long_is_answered, plain_is_answered}
 use Rattle.toml_editor.proofs.laws.plain_answers.Goals as goal
 
 pub returns : goal.returns
@@ -6,5 +6,5 @@ returns c = record {
   plain = plain_is_answered;
   long = long_is_answered;
   fault = first_fault_is_answered;
-  spread = first_spread_is_answered;
+  refused = first_refused_is_answered;
 }

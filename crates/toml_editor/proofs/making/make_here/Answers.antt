@@ -18,7 +18,13 @@ returns-clause-made c = record {
         passes_one _ _ (drafted c.args.draft.now) _ _ _ c.in_ok-done.done c.in_ok-done.ensures
         (elim (made_is c.in_ok-done.done _ _ c.not_made-is_spread.ensures c.if-is_spread.false) [
           | inl h ↦ inl h
-          | inr h ↦ inr (c.may_be_spread-spread.ensures.no h)
+          | inr h ↦ elim (made_is c.in_ok-done.done _ _ c.not_made-is_last.ensures c.if-is_last.false) [
+            | inl g ↦ inl g
+            | inr g ↦ inr (λ may. elim may [
+              | inl s ↦ c.may_be_spread-spread.ensures.no h s
+              | inr s ↦ c.is_only_element-only.ensures.no g s
+            ])
+          ]
         ]);
   };
 }
@@ -36,7 +42,7 @@ returns-then-is_spread-clause-told c =
 pub returns-then-is_last-clause-told : goal.returns-then-is_last-clause-told
 returns-then-is_last-clause-told c =
     let both = not_made_is c.in_ok-done.done _ _ c.not_made-is_last.ensures c.if-is_last.true in
-    let takes = c.is_only_element-only.ensures both.1 in
+    let takes = c.is_only_element-only.ensures.yes both.1 in
     record {
       told = (refl, (c.in_ok-applied.ensures.ok.0, takes));
       neither = not_last _ _ (drafted c.args.draft.now) _ _ _ c.in_ok-done.done c.in_ok-done.ensures both.0 takes;

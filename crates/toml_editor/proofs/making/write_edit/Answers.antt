@@ -4,10 +4,10 @@ use Rattle.toml_edits.specs.Edits.{change}
 use Rattle.toml_layout.specs.declared.tree.Brackets.TheVariants.{One, Two}
 use Rattle.toml_editor.specs.Exact.{WritesBelow, WritesHeader, WritesInsert, WritesInside, WritesSet}
 use Rattle.toml_working.specs.HeldLines.{TakesFromValue}
-use Rattle.toml_working.specs.RemovingIn.{RemovesLines}
+use Rattle.toml_working.specs.RemovingIn.{RemovesLines, TakesElement}
 use Rattle.toml_editor.specs.SpelledEdits.{IsSpelled}
 use Rattle.toml_working.specs.Starting.{read_of}
-use Rattle.toml_editor.proofs.Answered.{if_ok_and, if_ok_with}
+use Rattle.toml_editor.proofs.Answered.{if_ok_and, if_ok_two, if_ok_with}
 use Rattle.toml_editor.proofs.EditWritten.{edit_written}
 use Rattle.toml_editor.proofs.making.write_edit.Goals as goal
 
@@ -30,12 +30,13 @@ returns-in-Remove c =
     let read = read_of c.args.read.before in
     edit_written c.remove.result c.args.read.profile read c.args.tree.now c.remove.new.self c.in_ok-at.at _ _ c.in-Remove.is
     (λ whole. c.in_ok-at.ensures whole ∙ c.place.ensures)
-    (λ at. IfOk-weaker c.remove.result _ _
-    (λ done made whole. (
+    (λ at. if_ok_two _ _ _ c.remove.result
+    (λ done made taken whole. (
       subst (λ a. RemovesLines a read c.args.tree.now c.remove.new.self) (at whole) made.0,
       subst (λ a. TakesFromValue a read c.args.tree.now c.remove.new.self done) (at whole) made.1,
+      subst (λ a. TakesElement a read c.args.tree.now done) (at whole) taken,
     ))
-    (if_ok_with _ _ c.remove.result c.remove.ensures.line c.remove.ensures.value))
+    (if_ok_with _ _ c.remove.result c.remove.ensures.line c.remove.ensures.value) c.remove.ensures.element)
 
 pub returns-in-Insert : goal.returns-in-Insert
 returns-in-Insert c =
