@@ -33,8 +33,8 @@ abbrev pub NamesOuter : List ℕ → List Change → List (ℕ × ℕ) → Type 
 NamesOuter before cs ps = OfTree before (λ d. (i : ℕ) → IsFirst ps i ↔ IsOuter cs (units d.lines) i)
 
 -- The text is certified to be what the edits make of the first one, by pairs that name the outer protected units. Of plain edits it is
--- the one that they write in the layout, and none of the edits, where those before it are plain, has a place that is spread, or takes a
--- last element. Of a last edit behind plain ones, which changes an array or an inline table in the value of a line, it is told what is written.
+-- the one that they write in the layout, and none of the edits, where those before it are plain, is refused (`IsRefusedIn`). Of a last edit
+-- behind plain ones, which changes an array or an inline table in the value of a line, it is told what is written.
 pub record IsEditedWith (layout : Layout) (profile : Profile) (before : List ℕ) (cs : List Change) (after : List ℕ) (ps : List (ℕ × ℕ)) : Type 0
   where
     pub certified : Certified profile before cs after ps
@@ -97,11 +97,10 @@ AreDefinedOn profile before cs = IsDocumentIn profile before × OfData before (A
 
 -- What a fault of the editor tells in a layout. Of an edit: that the text is a document, and the fault is the edit's on the data so far. That its
 -- place is spread, or that it takes a last element: that it is defined on these data, and if those before it are plain, it is not plain, and
--- no array and no inline table in the value of a line holds what it puts in or takes out. That the result
--- is too long: all edits are defined, and where they are plain, what they write is too long. That the judge refuses it: all edits are
+-- no array and no inline table in the value of a line holds what it puts in or takes out. That the result is too long: all edits are defined, and where they are plain, what they write is too long. That the judge refuses it: all edits are
 -- defined, the list is not one of plain edits, and the reason is the first demand that no certificate meets of some text. That this is the
 -- text which was made says `certify` alone: here `AfterRefused` can always be told, by the text `=`. And each time that no edit before, or
--- of the list, has a place that is spread, or takes a last element, if those before it are plain. Of want of memory: nothing.
+-- of the list, is refused (`IsRefusedIn`), if those before it are plain. Of want of memory: nothing.
 abbrev pub TellsWith : Layout → Profile → List ℕ → List Change → EditorFault → Type 0
 TellsWith layout profile before cs (Edit index fault) =
     IsDocumentIn profile before × OnDataSoFar profile before cs index (λ c kinds. IsFault profile c kinds (Some fault))

@@ -31,7 +31,7 @@ pub record IsReadFrom (text : List ℕ) (read : Read) (known : List LineFacts) :
   pub facts : AreFacts read.before known
 
 -- The edits are defined on the data of the first text, and the pieces of that text are the second one. Of plain edits that is the one
--- that they write in the layout, and none of the edits has a place that is spread, or takes a last element.
+-- that they write in the layout, and none of the edits is refused (`IsRefusedIn`).
 pub record IsMadeText (layout : Layout) (profile : Profile) (before : List ℕ) (cs : List Change) (after : List ℕ) (list : List Piece) : Type 0 where
   pub are_defined : AreDefinedOn profile before cs
   pub plain : WritesPlain layout profile before cs after

@@ -138,8 +138,7 @@ abbrev pub IsNeitherOn : Profile → Read → Change → Tree → Type 0
 IsNeitherOn profile read c tree = (text : List ℕ) (kinds now : Kinds) → IsAt profile read tree text kinds
     → IsFault profile c kinds None → IsAfter profile c kinds now → ¬ IsPlainOrHeld profile text c
 
--- Where by the data near the edit it may be refused, the tree stands for no text in which it is refused without a fault: its place is
--- spread, or it takes a last element.
+-- Where by the data near the edit it may be refused, the tree stands for no text in which the edit, without a fault, is refused.
 abbrev pub PassesOne : Profile → Read → Kinds → Change → Tree → Type 0
 PassesOne profile read near c tree = (text : List ℕ) (kinds now : Kinds) → IsAt profile read tree text kinds
     → IsFault profile c kinds None → IsAfter profile c kinds now → MayBeRefused c near → ¬ IsRefusedIn profile text c
@@ -152,7 +151,7 @@ OfPlain profile read cs tree k P = (c : Change) → slice_get cs k ≡ Some c �
     → ArePlain profile (take k cs) (manner tree) text
     → (between : List ℕ) → AreWritten profile (take k cs) (manner tree) text between → P c between mid
 
--- so it is of the edit with this number, where those before it are plain; of the data those are known that are near the edits
+-- the edit with this number, where those before it are plain, is not refused, if by the data near the edits it may be
 abbrev pub PassesAt : Profile → Read → List Change → Kinds → Tree → ℕ → Type 0
 PassesAt profile read cs near tree k = (part : Kinds) × Lead profile (take k cs) near part
     × OfPlain profile read cs tree k (λ c text kinds. MayBeRefused c part → ¬ IsRefusedIn profile text c)
@@ -205,8 +204,8 @@ OfNoPlaceAt P (Spread i) = P i
 OfNoPlaceAt P (LastElement i) = P i
 OfNoPlaceAt P _ = Unit {0}
 
--- no edit before the one with the fault has a place that is spread, or takes a last element, and that one is neither plain nor held, if it is
--- told to be spread or to take a last element
+-- no edit before the one with the fault is refused, and that one is neither plain nor held, if it is told to be spread or to take a last
+-- element
 pub record Stops (profile : Profile) (read : Read) (cs : List Change) (near : Kinds) (tree : Tree) (fault : EditorFault) : Type 0 where
   pub passed : OfNumber (λ n. PassesAll profile read cs near n tree) fault
   pub spread : OfNoPlaceAt (λ j. IsNeitherAt profile read cs j tree) fault

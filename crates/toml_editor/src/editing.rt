@@ -63,8 +63,7 @@ pub fn edit(
 /// handed out. Of plain edits (a `set` where a value stands, a `rename`, an `insert` of a name at the root or in a table that has a
 /// header, a `remove` of the value of a line, a `section` or an `element` above which no line's value stands) the text is the one
 /// that their definition gives, byte for byte (`WritesPlain`); what is answered of them, and where behind them stands an edit with
-/// a fault, or one whose place is spread, or that takes a last element, says `laws::plain_answers`. Faults are told in the order
-/// of `EditorFault`.
+/// a fault, or one that is refused (`IsRefusedIn`), says `laws::plain_answers`. Faults are told in the order of `EditorFault`.
 pub fn edit_in(
     alloc: Global,
     before: &[u8],

@@ -1,4 +1,4 @@
--- What a `remove` of a line makes of the lines of the working tree.
+-- What a `remove` makes of the lines of the working tree, and whether that of an element is made.
 use Rattle.std.specs.Prelude.{◌≡◌, ◌&&◌, ◌||◌, ◌++◌, Bool, true, false, not, ℕ, List, [], ◌∷◌, is_some, length, map, if◌then◌else◌, Option, Some, None}
 use Rattle.std.specs.Bool.{nat_lt}
 use Rattle.std.specs.List.{list_any}
@@ -100,7 +100,7 @@ pub record TakesOutLine (p : Address) (read : Read) (at : Position) (old now : T
   pub tells : TellsStays p parent read old.slots.items at stays
   pub leaves : LeavesSlots old.texts read p parent stays at.slot old.slots.items now.slots.items
 
--- an element goes only where a line that is not at it, nor below it, makes its array
+-- an element goes just where a line that is not at it, nor below it, makes its array
 abbrev pub LeavesElements : Address → List ReadUnit → List Slot → Bool → Type 0
 LeavesElements p units slots result = is_some (element_of p) ≡ true → TellsMaker (parent_of p) p units slots result
 
