@@ -3,7 +3,7 @@ pub mod MadeEdits
 pub mod MakesExact
 pub mod PlainMade
 pub mod OneChanged
-pub mod PassedSpread
+pub mod PassedRefused
 pub mod Judgements
 pub mod PlainAnswers
 mod PlainJudged

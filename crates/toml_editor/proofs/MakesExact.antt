@@ -352,10 +352,10 @@ stops_at profile read cs near part i c old tree fault so_far makes here tells no
         (of_plain_made profile read cs i c old tree (λ d text kinds. ¬ IsPlainOrHeld profile text d) makes here one)
 
     by : (f : EditorFault) → TellsOne profile i c part f → OfNoPlaceAt (λ at. IsNeitherOn profile read c tree) f → Stops profile read cs near old f
-    by (faults.Edit j x) h one = record { passed = passed j h.0; spread = tt }
-    by (faults.Spread j) h one = record { passed = passed j h.0; spread = not_at j h.0 one }
-    by (faults.LastElement j) h one = record { passed = passed j h.0; spread = not_at j h.0 one }
-    by faults.NoMemory h one = record { passed = tt; spread = tt }
+    by (faults.Edit j x) h one = record { passed = passed j h.0; neither = tt }
+    by (faults.Spread j) h one = record { passed = passed j h.0; neither = not_at j h.0 one }
+    by (faults.LastElement j) h one = record { passed = passed j h.0; neither = not_at j h.0 one }
+    by faults.NoMemory h one = record { passed = tt; neither = tt }
     by (faults.Text x) h one = absurd h
     by (faults.Syntax x) h one = absurd h
     by (faults.Names x) h one = absurd h

@@ -318,6 +318,21 @@ module _ (layout : Layout) (profile : Profile) (before : List ℕ) (cs : List Ch
     of_last (edits.new_section p) takes = absurd takes
     of_last (edits.new_element p) takes = absurd takes
 
+    -- a fault that says this of the data, and is a refusal of the edit that has it, is the one of this edit
+    refused_alike : (P : Change → Kinds → Type 0) (say : ℕ → EditorFault) → ((x : Change) → P x mid → say n ≡ refusal n x) → (j : ℕ)
+        → OnDataSoFar profile before cs j (OfDefined profile P) → IsNeitherPlainNorHeld layout profile before cs j → NoneIsRefused layout profile before cs j
+        → IsFaultOrMemory (refusal n c) (Err (say j))
+    refused_alike P say is_refusal j on neither unrefused = by (compare j n)
+      where
+        by : (j < n) ⊎ (j ≡ n) ⊎ (n < j) → IsFaultOrMemory (refusal n c) (Err (say j))
+        by (inl low) =
+            let (x, x_is) = edit_at profile before cs j (OfDefined profile P) on in
+            absurd (not_refused_before layout profile before cs n between mid so_far j x x_is low neither)
+        by (inr (inl same)) =
+            let holds = here (OfDefined profile P) (subst (λ k. OnDataSoFar profile before cs k (OfDefined profile P)) same on) in
+            inl (ap (λ k. Err (say k)) same ∙ ap Err (is_refusal c holds.1))
+        by (inr (inr high)) = absurd (passed_at j (OfDefined profile P) on high unrefused)
+
     refused_is_answered : (answer : Result (List ℕ × List (ℕ × ℕ)) EditorFault) → IsAnswer layout profile before cs answer
         → IsFaultOrMemory (refusal n c) answer
     refused_is_answered (Ok (text, pairs)) told = absurd (passed_all told.certified.defined told.passed)
@@ -336,26 +351,8 @@ module _ (layout : Layout) (profile : Profile) (before : List ℕ) (cs : List Ch
             (subst (λ k. OnDataSoFar profile before cs k (λ x kinds. IsFault profile x kinds (Some f))) same told.1) in
             absurd (none f h.0)
         by (inr (inr high)) = absurd (passed_at j (λ x kinds. IsFault profile x kinds (Some f)) told.1 high told.2)
-    refused_is_answered (Err (faults.Spread j)) told = by (compare j n)
-      where
-        by : (j < n) ⊎ (j ≡ n) ⊎ (n < j) → IsFaultOrMemory (refusal n c) (Err (faults.Spread j))
-        by (inl low) =
-            let (x, x_is) = edit_at profile before cs j (OfDefined profile MayBeSpread) told.1 in
-            absurd (not_refused_before layout profile before cs n between mid so_far j x x_is low told.2)
-        by (inr (inl same)) =
-            let may = here (OfDefined profile MayBeSpread) (subst (λ k. OnDataSoFar profile before cs k (OfDefined profile MayBeSpread)) same told.1) in
-            inl (ap (λ k. Err (faults.Spread k)) same ∙ ap Err (of_spread c may.1))
-        by (inr (inr high)) = absurd (passed_at j (OfDefined profile MayBeSpread) told.1 high told.3)
-    refused_is_answered (Err (faults.LastElement j)) told = by (compare j n)
-      where
-        by : (j < n) ⊎ (j ≡ n) ⊎ (n < j) → IsFaultOrMemory (refusal n c) (Err (faults.LastElement j))
-        by (inl low) =
-            let (x, x_is) = edit_at profile before cs j (OfDefined profile TakesLastElement) told.1 in
-            absurd (not_refused_before layout profile before cs n between mid so_far j x x_is low told.2)
-        by (inr (inl same)) =
-            let takes = here (OfDefined profile TakesLastElement) (subst (λ k. OnDataSoFar profile before cs k (OfDefined profile TakesLastElement)) same told.1) in
-            inl (ap (λ k. Err (faults.LastElement k)) same ∙ ap Err (of_last c takes.1))
-        by (inr (inr high)) = absurd (passed_at j (OfDefined profile TakesLastElement) told.1 high told.3)
+    refused_is_answered (Err (faults.Spread j)) told = refused_alike MayBeSpread faults.Spread of_spread j told.1 told.2 told.3
+    refused_is_answered (Err (faults.LastElement j)) told = refused_alike TakesLastElement faults.LastElement of_last j told.1 told.2 told.3
     refused_is_answered (Err faults.TooLong) told = absurd (passed_all told.0.1 told.2)
     refused_is_answered (Err (faults.Unverified r)) told = absurd (passed_all told.0.1 told.2)
     refused_is_answered (Err faults.NoMemory) told = inr refl

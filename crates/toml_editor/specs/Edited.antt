@@ -97,10 +97,11 @@ AreDefinedOn profile before cs = IsDocumentIn profile before × OfData before (A
 
 -- What a fault of the editor tells in a layout. Of an edit: that the text is a document, and the fault is the edit's on the data so far. That its
 -- place is spread, or that it takes a last element: that it is defined on these data, and if those before it are plain, it is not plain, and
--- no array and no inline table in the value of a line holds what it puts in or takes out. That the result is too long: all edits are defined, and where they are plain, what they write is too long. That the judge refuses it: all edits are
--- defined, the list is not one of plain edits, and the reason is the first demand that no certificate meets of some text. That this is the
--- text which was made says `certify` alone: here `AfterRefused` can always be told, by the text `=`. And each time that no edit before, or
--- of the list, is refused (`IsRefusedIn`), if those before it are plain. Of want of memory: nothing.
+-- no array and no inline table in the value of a line holds what it puts in or takes out. That the result is too long: all edits are
+-- defined, and where they are plain, what they write is too long. That the judge refuses it: all edits are defined, the list is not one of
+-- plain edits, and the reason is the first demand that no certificate meets of some text. That this is the text which was made says
+-- `certify` alone: here `AfterRefused` can always be told, by the text `=`. And each time that no edit before, or of the list, is refused
+-- (`IsRefusedIn`), if those before it are plain. Of want of memory: nothing.
 abbrev pub TellsWith : Layout → Profile → List ℕ → List Change → EditorFault → Type 0
 TellsWith layout profile before cs (Edit index fault) =
     IsDocumentIn profile before × OnDataSoFar profile before cs index (λ c kinds. IsFault profile c kinds (Some fault))

@@ -208,4 +208,4 @@ OfNoPlaceAt P _ = Unit {0}
 -- element
 pub record Stops (profile : Profile) (read : Read) (cs : List Change) (near : Kinds) (tree : Tree) (fault : EditorFault) : Type 0 where
   pub passed : OfNumber (λ n. PassesAll profile read cs near n tree) fault
-  pub spread : OfNoPlaceAt (λ j. IsNeitherAt profile read cs j tree) fault
+  pub neither : OfNoPlaceAt (λ j. IsNeitherAt profile read cs j tree) fault

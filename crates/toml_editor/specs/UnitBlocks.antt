@@ -1,5 +1,4 @@
--- Units of lines that are put in and taken out: one block more, or one less, between two lines. The newline of a line is
--- in no unit. All other units are as they were, with their pieces: a piece of edited lines has the place that it had before.
+-- Units of lines that are put in and taken out: one block more, or one less, between two lines. The newline of a line is in no unit. All other units are as they were, with their pieces: a piece of edited lines has the place that it had before.
 use Rattle.std.specs.Prelude.{◌≡◌, ◌⊎◌, ◌<◌, ℕ, List, [], ◌∷◌, ◌++◌, Option, Some, None, length}
 use Rattle.std.specs.List.{join_by}
 use Rattle.toml_scalar.specs.Spelling.{spelled}

@@ -103,13 +103,11 @@ pub fn profiles()
 {}
 
 /// Places aside, a `set` leaves what stands in a value as it was, if the address does not lie in the value, and the value
-/// itself, if it does not stand at the address either. The newline of new lines is LF or CR LF. At first a blank line may be
-/// written before a header line only where the text ends in a newline.
+/// itself, if it does not stand at the address either. The newline of new lines is LF or CR LF.
 pub fn kept()
     ensures within { SetWithin }
     ensures elsewhere { SetElsewhere }
     ensures style { StyleIsNewline }
-    ensures blank { FirstBlankNeedsNewline }
 {}
 
 /// Places aside, a line stays what it is and where it is, if a `set` is neither at its value nor in it; if a `rename` is at
@@ -154,19 +152,22 @@ pub fn carried()
 {}
 
 /// So it is of a list of plain edits, each without a fault on the data so far: the pairs name just the units of the first
-/// text that no edit of the list takes away or changes.
+/// text that no edit of the list takes away or changes. A blank line may be written before a header line only if the text ends in a
+/// newline: else a last line that goes would leave one for which no edit asks.
 pub fn carried_by_lists()
     ensures { ListIsCarried }
 {}
 
 /// Within the limit of a text all demands of the judge hold of these pairs, and of those of them alone whose first unit
 /// lies in no other unit that is protected: these name just such units. So for each list of plain edits without a fault
-/// there is a text that it writes, with such pairs, and if it is within the limit the judge's verdict on it is yes.
+/// there is a text that it writes, with such pairs, and if it is within the limit the judge's verdict on it is yes; a blank line may
+/// be written only if the text ends in a newline, and what is written by at first is so.
 pub fn certified()
     ensures partners { PartnersCertify }
     ensures named { OuterAreNamed }
     ensures outer { OuterPartnersCertify }
     ensures list { PlainListIsCertified }
+    ensures blank { FirstBlankNeedsNewline }
 {}
 
 /// Within the limit of a text the good texts are the documents of the profile.

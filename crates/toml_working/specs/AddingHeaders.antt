@@ -31,8 +31,8 @@ LaysOutHeader q element p brackets steps read old now done = IsAsked q p element
     → Stands (text_of old.texts.source) read now.slots.items (header_laid_out old.texts.layout q p brackets (manner old) ss) × (done ≡ true)
     × (now.has_written_blank ≡ (old.has_written_blank || blank_laid_out old.texts.layout q p brackets (manner old) ss))
 
--- Of lines as the table rules have them: it is put in, and refused just where a line's value stands above it. It is
--- remembered whether a blank line is written before it.
+-- Of lines as the table rules have them: it is put in, and refused just where a line's value stands above it. It is remembered whether a blank
+-- line is written before it.
 abbrev pub TreeAddsHeader : Address → Option Address → Address → Brackets → List (String Global) → Read → Tree → Tree → Bool → Type 0
 TreeAddsHeader q element p brackets steps read old now done = IsAsked q p element steps → (ss : List Standing)
     → Stands (text_of old.texts.source) read old.slots.items ss → AreOrdered ss → AreReadyForHeader old.texts.layout q ss

@@ -1,5 +1,5 @@
--- `section` and `element` in layout `Follow`: where the header line of a new table, or of a new element of an array of tables, goes among lines. `may_blank`
--- tells whether a blank line may be written.
+-- `section` and `element` in layout `Follow`: where the header line of a new table, or of a new element of an array of tables, goes among
+-- lines. `may_blank` tells whether a blank line may be written.
 use Rattle.std.specs.Prelude.{ℕ, Bool, ◌&&◌, List, [], ◌∷◌, ◌++◌, map, Option, Some, None, option_map, if◌then◌else◌}
 use Rattle.std.specs.List.{list_any}
 use Rattle.toml_tree.specs.Bare.{fresh}

@@ -99,16 +99,16 @@ is_not_there lines kinds p facts unnamed = by (kinds p) refl
 -- takes it of the data.
 pub may_be_refused : (profile : Profile) (text : List ℕ) (kinds : Kinds) (c : Change) → IsGoodText profile text kinds → IsFault profile c kinds None
     → IsRefusedIn profile text c → MayBeRefused c kinds
-may_be_refused profile text kinds (set p value) good none spread = by (kinds p) refl
+may_be_refused profile text kinds (set p value) good none refused = by (kinds p) refl
   where
     by : (there : Option Kind) → kinds p ≡ there → MayBeRefused (set p value) kinds
     by None is = absurd (none NoSuchPlace is)
     by (Some a_table) is = inl (inl is)
     by (Some an_array) is = inl (inr is)
-    by (Some (a_scalar v)) is = absurd (spread good.tree good.spelled (scalar_has_value good.tree.lines p v ((good.facts p (a_scalar v)).0 is)))
-may_be_refused profile text kinds (insert p value) good none spread = absurd spread
-may_be_refused profile text kinds (rename p to) good none spread = absurd spread
+    by (Some (a_scalar v)) is = absurd (refused good.tree good.spelled (scalar_has_value good.tree.lines p v ((good.facts p (a_scalar v)).0 is)))
+may_be_refused profile text kinds (insert p value) good none refused = absurd refused
+may_be_refused profile text kinds (rename p to) good none refused = absurd refused
 may_be_refused profile text kinds (remove p) good none (q, own, only) =
     inr (q, own, is_there profile kinds p none, is_not_there good.tree.lines kinds (element q 1) good.facts (only good.tree good.spelled).1)
-may_be_refused profile text kinds (new_section p) good none spread = inl tt
-may_be_refused profile text kinds (new_element p) good none spread = inl tt
+may_be_refused profile text kinds (new_section p) good none refused = inl tt
+may_be_refused profile text kinds (new_element p) good none refused = inl tt

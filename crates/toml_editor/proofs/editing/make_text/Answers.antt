@@ -15,7 +15,7 @@ use Rattle.toml_editor.proofs.Answered.{if_ok_two}
 use Rattle.toml_editor.proofs.Judgements.{any_tells}
 use Rattle.toml_editor.proofs.NearFaults.{any_of_all, has_data}
 use Rattle.toml_editor.proofs.SourceKept.{as_read}
-use Rattle.toml_editor.proofs.PassedSpread.{none_is_refused, stops_told}
+use Rattle.toml_editor.proofs.PassedRefused.{none_is_refused, stops_told}
 use Rattle.toml_editor.proofs.ReadDocuments.{is_document, is_read_of, spelled, tree}
 use Rattle.toml_editor.proofs.PlainMade.{last_written, plain_written}
 use Rattle.toml_editor.proofs.editing.make_text.Goals as goal

@@ -132,4 +132,4 @@ module _ (profile : Profile) (read : Read) (d : Doc) (before : List ℕ) (tree :
     -- both, of the fault with which the edits end
     pub stops_told : (fault : EditorFault) → Stops profile read cs part tree fault
         → OfNumber (NoneIsRefused layout profile before cs) fault × OfNoPlaceAt (IsNeitherPlainNorHeld layout profile before cs) fault
-    stops_told fault stops = (none_is_refused_of fault stops.passed, neither_edit_of cs fault stops.spread)
+    stops_told fault stops = (none_is_refused_of fault stops.passed, neither_edit_of cs fault stops.neither)
