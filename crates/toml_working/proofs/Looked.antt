@@ -14,6 +14,7 @@ use Rattle.toml_layout.specs.declared.looks.Look.{Look}
 use Rattle.toml_layout.specs.declared.tree.Leaf.{Leaf}
 use Rattle.toml_layout.specs.declared.tree.OpenLine.{OpenLine}
 use Rattle.toml_working.specs.declared.working.Position.{Position}
+use Rattle.toml_names.specs.mentions.Keys.{Key}
 use Rattle.toml_names.specs.model.Addresses.{Address}
 use Rattle.toml_working.specs.FirstKeys.{like_before, spacing_after, spacing_like, spacing_put}
 use Rattle.toml_working.specs.InsertStanding.{is_bare, new_assign, new_outline, spaced_by, spacing_behind, spacing_of}
@@ -86,17 +87,17 @@ body_begun ws equals (bodies.Open n) now o (opened, is, outlined) (m, now_is, li
     (m, now_is, line_is ∙ ap (begun_as ws equals) (ap (λ (x : Box OpenLine). line x.value) same ∙ outlined))
 body_begun ws equals (bodies.Kept k) now o (opened, is, outlined) begins = absurd (kept_open k opened is)
 
--- a new line of the root
-pub begun_new : (ws : List ℕ) (equals : Option (List ℕ × List ℕ)) (name : List ℕ) (v : ValueOutline) (newline : List ℕ)
-    → begun_as ws equals (new_outline plain_spacing name v newline) ≡ new_outline (spaced_by ws equals) name v newline
-begun_new ws None name v newline = refl
-begun_new ws (Some (before, after)) name v newline = by (is_narrow before && is_narrow after)
+-- a new line
+pub begun_new : (ws : List ℕ) (equals : Option (List ℕ × List ℕ)) (key : Key) (v : ValueOutline) (newline : List ℕ)
+    → begun_as ws equals (new_outline plain_spacing key v newline) ≡ new_outline (spaced_by ws equals) key v newline
+begun_new ws None key v newline = refl
+begun_new ws (Some (before, after)) key v newline = by (is_narrow before && is_narrow after)
   where
     with_assign : AssignOutline → LineOutline
     with_assign a = record { ws = ws; expr = Pair a v; tail = []; comment = None; newline = newline }
 
     by : (b : Bool)
-        → with_assign (cond b (record { first = spelled name; rest = []; before_equals = before; after_equals = after }) (new_assign plain_spacing name))
-        ≡ new_outline (cond b (record { ws = ws; before_equals = before; after_equals = after }) (record { ws = ws; before_equals = 0x20 ∷ []; after_equals = 0x20 ∷ [] })) name v newline
+        → with_assign (cond b (record (new_assign plain_spacing key) { before_equals = before; after_equals = after }) (new_assign plain_spacing key))
+        ≡ new_outline (cond b (record { ws = ws; before_equals = before; after_equals = after }) (record { ws = ws; before_equals = 0x20 ∷ []; after_equals = 0x20 ∷ [] })) key v newline
     by true = refl
     by false = refl

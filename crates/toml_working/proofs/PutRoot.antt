@@ -6,8 +6,9 @@ use Rattle.std.specs.Prelude.{is_some, string_bytes}
 use Rattle.std.proofs.lemmas.Bool.{cases_lt}
 use Rattle.std.proofs.lemmas.List.{append_cancel_right, drop-map, drop_all, length-map}
 use Rattle.std.proofs.lemmas.Option.{slice_get_within}
-use Rattle.toml_names.specs.declared.model.address.Step.TheVariants.{Name}
-use Rattle.toml_names.specs.model.Addresses.{Address}
+use Rattle.toml_names.specs.mentions.Keys.{Key}
+use Rattle.toml_names.specs.model.Addresses.{Address, below}
+use Rattle.toml_scalar.specs.Spelling.{spelled}
 use Rattle.toml_text.specs.Source.{text_of}
 use Rattle.toml_tree.specs.Spells.{EachIs}
 use Rattle.toml_layout.specs.declared.layout.Layout.TheVariants as layouts
@@ -30,7 +31,7 @@ use Rattle.toml_layout.specs.OpenOutlines.{assign, leaf_text}
 use Rattle.toml_layout.specs.Outlines.{LineOutline, Pair, ValueOutline}
 use Rattle.toml_working.specs.Placing.{IsLastPair, IsNoHeader, IsPair, is_header, lines_before, lines_from}
 use Rattle.toml_layout.specs.NewKeys.{key_of}
-use Rattle.toml_working.specs.Putting.{EndsBefore, InsertsFirst, InsertsLines, IsNameIn, IsPairLine, PutsBehind, PutsSlots, ended_before, newline_behind}
+use Rattle.toml_working.specs.Putting.{EndsBefore, InsertsFirst, InsertsLines, IsKeyIn, IsPairLine, PutsBehind, PutsSlots, ended_before, newline_behind}
 use Rattle.toml_working.specs.Seeing.{line_at}
 use Rattle.toml_layout.specs.Spacings.{Spacing, plain_spacing}
 use Rattle.toml_working.specs.Standing.{Standing, Read, body_outline, line_standing, slots_standing}
@@ -40,21 +41,21 @@ use Rattle.toml_working.proofs.Commented.{found_below}
 use Rattle.toml_working.proofs.Looked.{begun_new, body_begun, put_behind_no_header}
 use Rattle.toml_working.proofs.Placed.{behind_line, split_at}
 
-line_put_is : (q : Address) (spacing : Spacing) (name : List ℕ) (v : ValueOutline) (manner : Manner) (s : Standing) (newline : List ℕ)
-    → line_put q spacing name v manner s newline
-    ≡ ended_before manner.newline s newline ∷ new_standing_in q spacing name v (newline_behind manner.newline newline) ∷ []
-line_put_is q spacing name v manner s [] = refl
-line_put_is q spacing name v manner s (x ∷ xs) = refl
+line_put_is : (q : Address) (spacing : Spacing) (key : Key) (v : ValueOutline) (manner : Manner) (s : Standing) (newline : List ℕ)
+    → line_put q spacing key v manner s newline
+    ≡ ended_before manner.newline s newline ∷ new_standing_in q spacing key v (newline_behind manner.newline newline) ∷ []
+line_put_is q spacing key v manner s [] = refl
+line_put_is q spacing key v manner s (x ∷ xs) = refl
 
 slot_there : (read : Read) (old : List Slot) (at : Position) (s : Standing) → line_at read old at ≡ Some s → at.slot < length old
 slot_there read old at s e = let (slot, there, own) = slot_of read old at s e in slice_get_within old at.slot slot there
 
 -- a new line stands so
-stands_new : (read : Read) (q : Address) (name : List ℕ) (o : LineOutline) (l : Line) → l.address ≡ Some (q ++ Name name ∷ []) → l.base ≡ Some (length q)
-    → HasOutline o l.body → line_standing read l ≡ record { address = Some (q ++ Name name ∷ []); base = Some (length q); outline = o }
-stands_new read q name o l address base (n, is, outlined) =
+pub stands_new : (read : Read) (q : Address) (key : Key) (o : LineOutline) (l : Line) → l.address ≡ Some (below q key) → l.base ≡ Some (length q)
+    → HasOutline o l.body → line_standing read l ≡ record { address = Some (below q key); base = Some (length q); outline = o }
+stands_new read q key o l address base (n, is, outlined) =
     ap₂ (λ x y. record { address = x; base = y; outline = body_outline read l.body }) address base
-    ∙ ap (λ x. record { address = Some (q ++ Name name ∷ []); base = Some (length q); outline = x }) (ap (body_outline read) is ∙ outlined)
+    ∙ ap (λ x. record { address = Some (below q key); base = Some (length q); outline = x }) (ap (body_outline read) is ∙ outlined)
 
 pub kept_new : (text : List ℕ) (read : Read) (o : LineOutline) (body : Body) → HasOutline o body → BodyKept text read body
 kept_new text read o body (n, is, outlined) = subst (BodyKept text read) (sym is) tt
@@ -65,52 +66,60 @@ pub puts_behind : (own : Address) (base : ℕ) (steps : List (String Global)) (v
     → IsPairLine own base steps v newline l → laid.address ≡ l.address → laid.base ≡ l.base → BodyBegins (leaf_text ws) (around equals) l.body laid.body
     → next.slot ≡ place.slot → (place.index + 1 < 2 ^ 64 → next.index ≡ place.index + 1) → PutsSlots read next laid mid now
     → PutsBehind own base steps v manner texts read place old now
-puts_behind own base steps v manner texts read place next old mid now newline ws equals l laid lays ends is_line address base_same begins slot index puts q at_base name root low kept s e =
+puts_behind own base steps v manner texts read place next old mid now newline ws equals l laid lays ends is_line address base_same begins slot index puts q at_base key root low kept s e =
     let text = text_of texts.source in
     let (kept_mid, ended) = ends kept in
     let (becomes, newline_is) = ended s e in
-    let (own_is, base_is, outlined) = is_line q at_base name root in
-    let begun = body_begun (leaf_text ws) (around equals) l.body laid.body (new_outline plain_spacing name v newline) outlined begins in
-    let stands = stands_new read q name (begun_as (leaf_text ws) (around equals) (new_outline plain_spacing name v newline)) laid (address ∙ own_is) (base_same ∙ base_is) begun in
+    let (own_is, base_is, outlined) = is_line q at_base key root in
+    let begun = body_begun (leaf_text ws) (around equals) l.body laid.body (new_outline plain_spacing key v newline) outlined begins in
+    let stands = stands_new read q key (begun_as (leaf_text ws) (around equals) (new_outline plain_spacing key v newline)) laid (address ∙ own_is) (base_same ∙ base_is) begun in
     let within : next.slot < length mid = subst (λ k. k < length mid) (sym slot) (subst (λ n. place.slot < n) (sym becomes.count) (slot_there read old place s e)) in
     let (kept_now, are) = puts within text kept_mid (kept_new text read _ laid.body begun) in
     let before : lines_before read mid next.slot next.index ≡ lines_before read old place.slot place.index ++ ended_before manner.newline s s.outline.newline ∷ [] =
     ap₂ (lines_before read mid) slot (index low) ∙ becomes.before in
     let behind : lines_from read mid next.slot next.index ≡ lines_from read old place.slot (place.index + 1) = ap₂ (lines_from read mid) slot (index low) ∙ becomes.behind in
     let spacing = spacing_put manner (lines_before read old place.slot place.index) s in
-    let new : line_standing read laid ≡ new_standing_in q spacing name v (newline_behind manner.newline s.outline.newline) =
-    stands ∙ ap (λ o. record { address = Some (q ++ Name name ∷ []); base = Some (length q); outline = o }) (begun_new (leaf_text ws) (around equals) name v newline)
-    ∙ ap₂ (λ x n. new_standing_in q x name v n) (lays s e) newline_is in (
+    let new : line_standing read laid ≡ new_standing_in q spacing key v (newline_behind manner.newline s.outline.newline) =
+    stands ∙ ap (λ o. record { address = Some (below q key); base = Some (length q); outline = o }) (begun_new (leaf_text ws) (around equals) key v newline)
+    ∙ ap₂ (λ x n. new_standing_in q x key v n) (lays s e) newline_is in (
       kept_now,
       are ∙ ap₂ (λ x y. x ++ line_standing read laid ∷ y) before behind
           ∙ append_assoc (lines_before read old place.slot place.index) (ended_before manner.newline s s.outline.newline ∷ []) (line_standing read laid ∷ lines_from read old place.slot (place.index + 1))
           ∙ ap (λ x. lines_before read old place.slot place.index ++ (ended_before manner.newline s s.outline.newline ∷ x ∷ lines_from read old place.slot (place.index + 1))) new
-          ∙ ap (λ x. lines_before read old place.slot place.index ++ (x ++ lines_from read old place.slot (place.index + 1))) (sym (line_put_is q spacing name v manner s s.outline.newline)),
+          ∙ ap (λ x. lines_before read old place.slot place.index ++ (x ++ lines_from read old place.slot (place.index + 1))) (sym (line_put_is q spacing key v manner s s.outline.newline)),
     )
 
--- the spellings from the last step of a name on
-pub parts_named : (q : Address) (name : List ℕ) (own : Address) (steps parts : List (String Global)) (n : ℕ) → IsNameIn q name own steps
+none_mapped : {X Y : Type 0} (f : X → Y) (xs : List X) → map f xs ≡ [] → xs ≡ []
+none_mapped f [] is = refl
+none_mapped f (x ∷ xs) is = cc
+
+-- the spellings of the last steps
+pub parts_named : (q : Address) (key : Key) (own : Address) (steps parts : List (String Global)) (n : ℕ) → IsKeyIn q key own steps
     → (length q ≤ length steps → n ≡ length q) → parts ≡ drop n steps → map string_bytes parts ≡ drop (length q) (map string_bytes steps)
-parts_named q name own steps parts n named low is = elim (cases_lt (length steps) (length q)) [
+parts_named q key own steps parts n named low is = elim (cases_lt (length steps) (length q)) [
   | inl past ↦ absurd (no_step (drop_all (length q) (map string_bytes steps) (let same = length-map steps string_bytes in omega (arith, past, same))))
   | inr within ↦
       ap (map string_bytes) (is ∙ ap (λ k. drop k steps) (low within)) ∙ sym (drop-map string_bytes (length q) steps)
 ]
   where
     no_step : drop (length q) (map string_bytes steps) ≡ [] → ⊥
-    no_step none = let some = named.steps_is in cc
+    no_step none = named.some (none_mapped spelled key (sym named.steps_is ∙ none))
 
--- the line of a name in a table
+-- the line of a key in a table
 pub pair_line_is : (own : Address) (base : ℕ) (steps parts : List (String Global)) (v : ValueOutline) (newline : List ℕ) (a : Assign) (l : Line)
-    → ((q : Address) (name : List ℕ) → base ≡ length q → IsNameIn q name own steps → map string_bytes parts ≡ drop (length q) (map string_bytes steps))
+    → ((q : Address) (key : Key) → base ≡ length q → IsKeyIn q key own steps → map string_bytes parts ≡ drop (length q) (map string_bytes steps))
     → assign a ≡ key_of (map string_bytes parts) → l.address ≡ Some own → l.base ≡ Some base → HasOutline (alone (Pair (assign a) v) newline) l.body
     → IsPairLine own base steps v newline l
-pair_line_is own base steps parts v newline a l same assigns address base_is (n, is, outlined) q at_base name named =
-    let assigned = assigns ∙ ap key_of (same q name at_base named ∙ named.steps_is) in (
+pair_line_is own base steps parts v newline a l same assigns address base_is (n, is, outlined) q at_base key named =
+    let assigned = assigns ∙ ap key_of (same q key at_base named ∙ named.steps_is) in (
       address ∙ ap Some named.at_is,
       base_is ∙ ap Some at_base,
-      (n, is, outlined ∙ ap (λ x. alone (Pair x v) newline) assigned),
+      (n, is, outlined ∙ ap (λ x. alone (Pair x v) newline) assigned ∙ plain_key key named.some),
     )
+  where
+    plain_key : (k : Key) → ¬ (k ≡ []) → alone (Pair (key_of (map spelled k)) v) newline ≡ new_outline plain_spacing k v newline
+    plain_key [] some = absurd (some refl)
+    plain_key (m ∷ more) some = refl
 
 -- ---- behind the last one of some lines
 
@@ -164,8 +173,8 @@ pub behind_root : (own : Address) (steps : List (String Global)) (v : ValueOutli
 behind_root own steps v manner texts read place old now finds puts name root ss stands rooted =
     let last = finds (subst RootIsFirst (sym stands.are) rooted.first) in
     let s = last.line in
-    let (kept_now, put_at) = puts [] refl name root last.next stands.kept s last.there in
-    let are = subst (λ x. slots_standing read now ≡ lines_before read old place.slot place.index ++ (line_put [] x name v manner s s.outline.newline ++ lines_from read old place.slot (place.index + 1)))
+    let (kept_now, put_at) = puts [] refl (name ∷ []) root last.next stands.kept s last.there in
+    let are = subst (λ x. slots_standing read now ≡ lines_before read old place.slot place.index ++ (line_put [] x (name ∷ []) v manner s s.outline.newline ++ lines_from read old place.slot (place.index + 1)))
     (put_behind_no_header manner (lines_before read old place.slot place.index) s (pair_no_header s last.back last.pair)) put_at in
     let split : ss ≡ last.front ++ s ∷ last.back = sym stands.are ∙ last.is in
     let has : has_pair ss ≡ true = ap has_pair split ∙ has_front s last.back last.pair last.front last.heads in
@@ -202,12 +211,12 @@ before_all own steps v manner text read old now l above is_line puts name root s
         → Stands text read xs ss → Stands text read now (insert_first name v manner ss)
     by [] above puts stands = absurd (rooted.some (sym stands.are))
     by (x ∷ xs) above puts stands =
-        let (own_is, base_is, outlined) = is_line [] refl name root in
+        let (own_is, base_is, outlined) = is_line [] refl (name ∷ []) root in
         let (kept_now, are) = puts (omega arith) text stands.kept (kept_new text read _ l.body outlined) in
         record {
           kept = kept_now;
           are =
-              are ∙ ap₂ (λ n r. n ∷ r) (stands_new read [] name (new_outline plain_spacing name v manner.newline) l own_is base_is outlined) stands.are
+              are ∙ ap₂ (λ n r. n ∷ r) (stands_new read [] (name ∷ []) (new_outline plain_spacing (name ∷ []) v manner.newline) l own_is base_is outlined) stands.are
               ∙ sym (ap (λ b. cond b (insert_behind has_comment name v manner ss) (new_standing plain_spacing name v manner.newline ∷ ss))
               (ap (goes_below manner.layout) (sym stands.are) ∙ above));
         }
@@ -232,8 +241,8 @@ pub below_comments : (own : Address) (steps : List (String Global)) (v : ValueOu
 below_comments own steps v manner texts read place old now follows found puts name root ss stands rooted no_pair =
     let last = found.last in
     let s = last.line in
-    let (kept_now, put_at) = puts [] refl name root last.next stands.kept s last.there in
-    let are = subst (λ x. slots_standing read now ≡ lines_before read old place.slot place.index ++ (line_put [] x name v manner s s.outline.newline ++ lines_from read old place.slot (place.index + 1)))
+    let (kept_now, put_at) = puts [] refl (name ∷ []) root last.next stands.kept s last.there in
+    let are = subst (λ x. slots_standing read now ≡ lines_before read old place.slot place.index ++ (line_put [] x (name ∷ []) v manner s s.outline.newline ++ lines_from read old place.slot (place.index + 1)))
     (put_behind_no_header manner (lines_before read old place.slot place.index) s (comment_no_header s last.comment)) put_at in
     let split : ss ≡ last.front ++ s ∷ found.rest = sym stands.are ∙ last.is in
     let below : goes_below manner.layout ss ≡ true =

@@ -67,7 +67,7 @@ module _ (q own : Address) (base : ℕ) (steps : List (String Global)) (v : Valu
   puts_first none puts name named ss stands headed =
       let (found, low) = finds (subst (AreHeaded q) (sym stands.are) headed) in
       let (h, there, heads) = header_here q read old header found in
-      let (kept, are) = puts q at_base name named low stands.kept h there in
+      let (kept, are) = puts q at_base (name ∷ []) named low stands.kept h there in
       let behind : lines_from read old next.slot next.index ≡ lines_from read old header.slot (header.index + 1) = ap₂ (lines_from read old) slot (index low) in (
         slots_standing read now,
         record { kept = kept; are = refl },
@@ -89,7 +89,7 @@ module _ (q own : Address) (base : ℕ) (steps : List (String Global)) (v : Valu
       let (found, low) = finds (subst (AreHeaded q) (sym stands.are) headed) in
       let (h, there, heads) = header_here q read old header found in
       let last = ends.last in
-      let (kept, are) = puts q at_base name named last.next stands.kept last.line last.there in
+      let (kept, are) = puts q at_base (name ∷ []) named last.next stands.kept last.line last.there in
       let split : slots_standing read old ≡ lines_before read old at.slot at.index ++ last.line ∷ last.back =
       split_at read old at.slot at.index ∙ ap (λ r. lines_before read old at.slot at.index ++ r) last.from in
       let behind : last.back ≡ lines_from read old at.slot (at.index + 1) = behind_line read old at last.line last.back last.there last.from in
@@ -119,7 +119,7 @@ module _ (q own : Address) (base : ℕ) (steps : List (String Global)) (v : Valu
           ];
           is =
               are
-              ∙ ap (λ r. lines_before read old at.slot at.index ++ (line_put q (spacing_put manner (lines_before read old at.slot at.index) last.line) name v manner last.line last.line.outline.newline ++ r)) (sym behind);
+              ∙ ap (λ r. lines_before read old at.slot at.index ++ (line_put q (spacing_put manner (lines_before read old at.slot at.index) last.line) (name ∷ []) v manner last.line last.line.outline.newline ++ r)) (sym behind);
         },
       )
 

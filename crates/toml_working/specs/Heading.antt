@@ -1,14 +1,14 @@
 -- `section` and `element`: the header line of a new table, or of a new element of an array of tables, among lines.
 use Rattle.std.specs.Prelude.{ℕ, ◌+◌, List, [], ◌∷◌, ◌++◌, map, Option, Some, None, option_map, if◌then◌else◌}
-use Rattle.toml_scalar.specs.Spelling.{spelled}
 use Rattle.toml_tree.specs.Bare.{fresh}
-use Rattle.toml_tree.specs.Tree.{Dotted, Key, Header, Expr, TableLine, ArrayTableLine, Line}
+use Rattle.toml_tree.specs.Tree.{Header, Expr, TableLine, ArrayTableLine, Line}
 use Rattle.toml_names.specs.mentions.Mentions.{Named, named_by, root}
 use Rattle.toml_names.specs.model.Addresses.{Address}
 use Rattle.toml_layout.specs.TreeOutlines.{line_outline}
 use Rattle.toml_layout.specs.declared.tree.Brackets.{Brackets}
 use Rattle.toml_layout.specs.declared.tree.Brackets.TheVariants.{One, Two}
 use Rattle.toml_working.specs.declared.lines.Sought.TheVariants as sought
+use Rattle.toml_working.specs.FreshKeys.{key_named}
 use Rattle.toml_working.specs.Headers.{has_below, has_no_bytes, innermost, names_of}
 use Rattle.toml_working.specs.Placing.{is_header}
 use Rattle.toml_working.specs.Removing.{no_blank}
@@ -16,14 +16,6 @@ use Rattle.toml_working.specs.Seeing.{is_sought_line}
 use Rattle.toml_working.specs.Standing.{Standing, line_stands}
 
 -- ---- the line
-
--- a key of these names, without whitespace
-abbrev pub dotted_name : List ℕ → Dotted
-dotted_name name = record { before_dot = fresh []; after_dot = fresh []; part = fresh (spelled name) }
-
-abbrev pub key_named : List (List ℕ) → Key
-key_named [] = record { first = fresh []; rest = [] }
-key_named (name ∷ names) = record { first = fresh (spelled name); rest = map dotted_name names }
 
 -- the header of what stands at the address
 abbrev pub fresh_header : Address → Header

@@ -1,31 +1,32 @@
 -- `insert` of a name at the root, on lines by what finds them, and a line that is put in behind another, in any table.
-use Rattle.std.specs.Prelude.{◌≡◌, length, ℕ, Bool, true, false, ◌&&◌, not, is_some, List, [], ◌∷◌, ◌++◌, Option, Some, None, if◌then◌else◌}
+use Rattle.std.specs.Prelude.{◌≡◌, length, map, ℕ, Bool, true, false, ◌&&◌, not, is_some, List, [], ◌∷◌, ◌++◌, Option, Some, None, if◌then◌else◌}
 use Rattle.std.specs.List.{list_any}
 use Rattle.toml_scalar.specs.Spelling.{spelled}
-use Rattle.toml_names.specs.declared.model.address.Step.TheVariants.{Name}
-use Rattle.toml_names.specs.model.Addresses.{Address}
+use Rattle.toml_names.specs.mentions.Keys.{Key}
+use Rattle.toml_names.specs.model.Addresses.{Address, below}
 use Rattle.toml_tree.specs.Spells.{EachIs}
 use Rattle.toml_layout.specs.declared.layout.Layout.{Layout}
 use Rattle.toml_layout.specs.declared.layout.Layout.TheVariants as layouts
 use Rattle.toml_layout.specs.Looks.{equals_in}
+use Rattle.toml_layout.specs.NewKeys.{key_of}
 use Rattle.toml_working.specs.Manners.{Manner}
 use Rattle.toml_layout.specs.Outlines.{AssignOutline, LineOutline, Pair, ValueOutline}
 use Rattle.toml_layout.specs.Spacings.{Spacing, laid_out, plain_spacing, spaced_as}
 use Rattle.toml_working.specs.Standing.{Standing, holds}
 
--- the name, `=` and the value, with this whitespace
-abbrev pub new_assign : Spacing → List ℕ → AssignOutline
-new_assign s name = record { first = spelled name; rest = []; before_equals = s.before_equals; after_equals = s.after_equals }
+-- the key, `=` and the value, with this whitespace
+abbrev pub new_assign : Spacing → Key → AssignOutline
+new_assign s key = record (key_of (map spelled key)) { before_equals = s.before_equals; after_equals = s.after_equals }
 
-abbrev pub new_outline : Spacing → List ℕ → ValueOutline → List ℕ → LineOutline
-new_outline s name v newline = record { ws = s.ws; expr = Pair (new_assign s name) v; tail = []; comment = None; newline = newline }
+abbrev pub new_outline : Spacing → Key → ValueOutline → List ℕ → LineOutline
+new_outline s key v newline = record { ws = s.ws; expr = Pair (new_assign s key) v; tail = []; comment = None; newline = newline }
 
--- the line with them, in the section of the table at the address, and at the root
-abbrev pub new_standing_in : Address → Spacing → List ℕ → ValueOutline → List ℕ → Standing
-new_standing_in q s name v newline = record { address = Some (q ++ Name name ∷ []); base = Some (length q); outline = new_outline s name v newline }
+-- the line with them, in the section of the table at the address, and that of a name at the root
+abbrev pub new_standing_in : Address → Spacing → Key → ValueOutline → List ℕ → Standing
+new_standing_in q s key v newline = record { address = Some (below q key); base = Some (length q); outline = new_outline s key v newline }
 
 abbrev pub new_standing : Spacing → List ℕ → ValueOutline → List ℕ → Standing
-new_standing = new_standing_in []
+new_standing s name = new_standing_in [] s (name ∷ [])
 
 -- the line in another newline
 abbrev pub end_in : List ℕ → Standing → Standing
@@ -87,13 +88,13 @@ goes_below layouts.Follow ss = has_comment ss && comments_end ss
 
 -- A line, by its newline, and the new one behind it, in the section of the table at the address and with this whitespace. What has no
 -- newline is a former last line: it gets that of new lines, and the new one has none.
-abbrev pub line_put : Address → Spacing → List ℕ → ValueOutline → Manner → Standing → List ℕ → List Standing
-line_put q spacing name v manner s [] = end_in manner.newline s ∷ new_standing_in q spacing name v [] ∷ []
-line_put q spacing name v manner s (b ∷ bs) = s ∷ new_standing_in q spacing name v manner.newline ∷ []
+abbrev pub line_put : Address → Spacing → Key → ValueOutline → Manner → Standing → List ℕ → List Standing
+line_put q spacing key v manner s [] = end_in manner.newline s ∷ new_standing_in q spacing key v [] ∷ []
+line_put q spacing key v manner s (b ∷ bs) = s ∷ new_standing_in q spacing key v manner.newline ∷ []
 
 -- at the root, with that of the line
 abbrev pub line_behind : List ℕ → ValueOutline → Manner → Standing → List ℕ → List Standing
-line_behind name v manner s = line_put [] (spacing_behind manner s) name v manner s
+line_behind name v manner s = line_put [] (spacing_behind manner s) (name ∷ []) v manner s
 
 -- behind the last one of some lines; `more` tells of the lines behind one whether another of them follows
 abbrev pub insert_behind : (List Standing → Bool) → List ℕ → ValueOutline → Manner → List Standing → List Standing

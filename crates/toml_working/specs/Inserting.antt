@@ -1,28 +1,29 @@
 -- `insert` of a name at the root, or in a table that has a header: a new line.
 use Rattle.std.specs.Prelude.{ℕ, Bool, true, false, ◌&&◌, not, is_some, List, [], ◌∷◌, ◌++◌, if◌then◌else◌, None}
-use Rattle.toml_scalar.specs.Spelling.{spelled}
 use Rattle.toml_tree.specs.Bare.{fresh}
 use Rattle.toml_tree.specs.Tree.{Assign, Value, Expr, BlankLine, KeyValLine, TableLine, ArrayTableLine, Line}
 use Rattle.toml_layout.specs.declared.layout.Layout.{Layout}
 use Rattle.toml_layout.specs.declared.layout.Layout.TheVariants as layouts
+use Rattle.toml_names.specs.mentions.Keys.{Key}
 use Rattle.toml_names.specs.mentions.Mentions.{named}
 use Rattle.toml_names.specs.model.Addresses.{Address}
 use Rattle.toml_working.specs.declared.lines.Sought.TheVariants as sought
 use Rattle.toml_working.specs.FirstKeys.{like_before, spacing_like}
+use Rattle.toml_working.specs.FreshKeys.{key_named}
 use Rattle.toml_working.specs.Manners.{Manner}
 use Rattle.toml_working.specs.Seeing.{is_sought_line}
 use Rattle.toml_working.specs.Standing.{line_stands, standing}
 use Rattle.toml_layout.specs.Spacings.{Spacing, laid_out, plain_spacing, spaced_as}
 
--- the name, `=` and the value, with this whitespace
-abbrev pub new_assign : Spacing → List ℕ → Assign
-new_assign s name = record { key = record { first = fresh (spelled name); rest = [] }; before_equals = fresh s.before_equals; after_equals = fresh s.after_equals }
+-- the key, `=` and the value, with this whitespace
+abbrev pub new_assign : Spacing → Key → Assign
+new_assign s key = record { key = key_named key; before_equals = fresh s.before_equals; after_equals = fresh s.after_equals }
 
-abbrev pub new_expr : Spacing → List ℕ → Value → Expr
-new_expr s name v = KeyValLine (fresh s.ws) (record { assign = new_assign s name; value = v }) (record { ws = fresh []; comment = None })
+abbrev pub new_expr : Spacing → Key → Value → Expr
+new_expr s key v = KeyValLine (fresh s.ws) (record { assign = new_assign s key; value = v }) (record { ws = fresh []; comment = None })
 
-abbrev pub new_line : Spacing → List ℕ → Value → List ℕ → Line
-new_line s name v newline = record { expr = new_expr s name v; newline = fresh newline }
+abbrev pub new_line : Spacing → Key → Value → List ℕ → Line
+new_line s key v newline = record { expr = new_expr s key v; newline = fresh newline }
 
 -- the whitespace of a line behind another one: that of this one, where it has a key and a value
 abbrev pub spacing_of : Expr → Spacing
@@ -35,22 +36,22 @@ abbrev pub spacing_behind : Manner → Line → Spacing
 spacing_behind manner l = laid_out manner.layout (spacing_of l.expr)
 
 -- behind a line, with this whitespace: a former last line gets the newline of new lines, and the new one ends without
-abbrev pub line_put : Spacing → List ℕ → Value → Manner → Line → List Line → List Line
-line_put s name v manner l [] = record { expr = l.expr; newline = fresh manner.newline } ∷ new_line s name v [] ∷ []
-line_put s name v manner l (m ∷ ms) = l ∷ new_line s name v manner.newline ∷ m ∷ ms
+abbrev pub line_put : Spacing → Key → Value → Manner → Line → List Line → List Line
+line_put s key v manner l [] = record { expr = l.expr; newline = fresh manner.newline } ∷ new_line s key v [] ∷ []
+line_put s key v manner l (m ∷ ms) = l ∷ new_line s key v manner.newline ∷ m ∷ ms
 
 -- with that of the line
 abbrev pub line_behind : List ℕ → Value → Manner → Line → List Line → List Line
-line_behind name v manner l = line_put (spacing_behind manner l) name v manner l
+line_behind name v manner l = line_put (spacing_behind manner l) (name ∷ []) v manner l
 
 -- behind the last one of some lines, with whitespace by that; `more` tells of the lines behind one whether another of them follows
-abbrev pub put_last : (List Line → Bool) → (Line → Spacing) → List ℕ → Value → Manner → List Line → List Line
-put_last more spacing name v manner [] = []
-put_last more spacing name v manner (l ∷ ls) =
-    if more ls then l ∷ put_last more spacing name v manner ls else line_put (spacing l) name v manner l ls
+abbrev pub put_last : (List Line → Bool) → (Line → Spacing) → Key → Value → Manner → List Line → List Line
+put_last more spacing key v manner [] = []
+put_last more spacing key v manner (l ∷ ls) =
+    if more ls then l ∷ put_last more spacing key v manner ls else line_put (spacing l) key v manner l ls
 
 abbrev pub insert_behind : (List Line → Bool) → List ℕ → Value → Manner → List Line → List Line
-insert_behind more name v manner = put_last more (spacing_behind manner) name v manner
+insert_behind more name v manner = put_last more (spacing_behind manner) (name ∷ []) v manner
 
 -- whether a keyval line stands before the first header
 abbrev pub has_pair : List Line → Bool
@@ -88,7 +89,7 @@ goes_below layouts.Follow lines = has_comment lines && comments_end lines
 -- the first line of the root: below these, or before all lines
 abbrev pub insert_first : List ℕ → Value → Manner → List Line → List Line
 insert_first name v manner lines =
-    if goes_below manner.layout lines then insert_behind has_comment name v manner lines else new_line plain_spacing name v manner.newline ∷ lines
+    if goes_below manner.layout lines then insert_behind has_comment name v manner lines else new_line plain_spacing (name ∷ []) v manner.newline ∷ lines
 
 -- behind the last keyval line before the first header, or as the first line of the root
 abbrev pub insert_lines : List ℕ → Value → Manner → List Line → List Line
@@ -111,10 +112,5 @@ is_header_of q before l = is_sought_line sought.Header q (line_stands (named bef
 abbrev pub insert_from : Address → List ℕ → Value → Manner → List Line → List Line → List Line
 insert_from q name v manner before [] = []
 insert_from q name v manner before (l ∷ ls) =
-    if is_header_of q before l then put_last has_pair (spacing_put manner before) name v manner (l ∷ ls)
+    if is_header_of q before l then put_last has_pair (spacing_put manner before) (name ∷ []) v manner (l ∷ ls)
     else l ∷ insert_from q name v manner (before ++ l ∷ []) ls
-
--- in a table that is the root, or has a header
-abbrev pub insert_in : Address → List ℕ → Value → Manner → List Line → List Line
-insert_in [] name v manner lines = insert_lines name v manner lines
-insert_in (s ∷ q) name v manner lines = insert_from (s ∷ q) name v manner [] lines

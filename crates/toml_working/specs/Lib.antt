@@ -23,6 +23,8 @@ pub mod Seeing
 pub mod Placing
 pub mod Putting
 pub mod Sections
+pub mod Spellings
+pub mod DottedTables
 pub mod Headers
 pub mod NextHeaders
 pub mod PuttingHeaders
@@ -30,6 +32,8 @@ pub mod FollowingHeaders
 pub mod Following
 pub mod HeaderStanding
 pub mod AddingHeaders
+pub mod ImpliedTables
+pub mod InTables
 pub mod Changing
 pub mod HeldLines
 pub mod RemoveStanding
@@ -37,7 +41,9 @@ pub mod RemovingIn
 -- what a plain edit writes
 pub mod Lines
 pub mod Setting
+pub mod FreshKeys
 pub mod Inserting
+pub mod InsertingInTables
 pub mod Removing
 pub mod Heading
 pub mod HeadingFollowed

@@ -4,7 +4,8 @@ use Rattle.std.specs.declared.alloc.Global.{Global}
 use Rattle.std.specs.declared.string.String.{String}
 use Rattle.toml_scalar.specs.Spelling.{spelled}
 use Rattle.toml_names.specs.declared.model.address.Step.TheVariants.{Name}
-use Rattle.toml_names.specs.model.Addresses.{Address}
+use Rattle.toml_names.specs.mentions.Keys.{Key}
+use Rattle.toml_names.specs.model.Addresses.{Address, below}
 use Rattle.toml_text.specs.Source.{text_of}
 use Rattle.toml_tree.specs.Spells.{EachIs}
 use Rattle.toml_tree.specs.Tree as tree
@@ -96,10 +97,15 @@ PutsSlots read at line old now = at.slot < length old → (text : List ℕ) → 
 abbrev pub IsElsewhere : Address → Type 0
 IsElsewhere at = (name : List ℕ) → ¬ (at ≡ Name name ∷ [])
 
--- the address is that of this name in the table at the other, and this is the spelling of its last step
-pub record IsNameIn (q : Address) (name : List ℕ) (at : Address) (steps : List (String Global)) : Type 0 where
-  pub at_is : at ≡ q ++ Name name ∷ []
-  pub steps_is : drop (length q) (map string_bytes steps) ≡ spelled name ∷ []
+-- the address is that of this key in the table at the other, and these are the spellings of its last steps
+pub record IsKeyIn (q : Address) (key : Key) (at : Address) (steps : List (String Global)) : Type 0 where
+  pub some : ¬ (key ≡ [])
+  pub at_is : at ≡ below q key
+  pub steps_is : drop (length q) (map string_bytes steps) ≡ map spelled key
+
+-- that of a name
+abbrev pub IsNameIn : Address → List ℕ → Address → List (String Global) → Type 0
+IsNameIn q name = IsKeyIn q (name ∷ [])
 
 -- at the root
 abbrev pub IsRootName : List ℕ → Address → List (String Global) → Type 0
@@ -109,19 +115,19 @@ IsRootName = IsNameIn []
 abbrev pub manner : Tree → Manner
 manner tree = record { newline = leaf_text tree.style; layout = tree.texts.layout; may_blank = may_write_blank tree }
 
--- the line of a name in a table, in the plain layout
+-- the line of a key in a table, in the plain layout
 abbrev pub IsPairLine : Address → ℕ → List (String Global) → ValueOutline → List ℕ → Line → Type 0
-IsPairLine at base steps v newline l = (q : Address) → base ≡ length q → (name : List ℕ) → IsNameIn q name at steps
-    → (l.address ≡ Some (q ++ Name name ∷ [])) × (l.base ≡ Some (length q)) × HasOutline (new_outline plain_spacing name v newline) l.body
+IsPairLine at base steps v newline l = (q : Address) → base ≡ length q → (key : Key) → IsKeyIn q key at steps
+    → (l.address ≡ Some (below q key)) × (l.base ≡ Some (length q)) × HasOutline (new_outline plain_spacing key v newline) l.body
 
 -- it is put in behind the line at the place
 abbrev pub PutsBehind : Address → ℕ → List (String Global) → ValueOutline → Manner → Texts → Read → Position → List Slot → List Slot
     → Type 0
-PutsBehind at base steps v manner texts read place old now = (q : Address) → base ≡ length q → (name : List ℕ) → IsNameIn q name at steps
+PutsBehind at base steps v manner texts read place old now = (q : Address) → base ≡ length q → (key : Key) → IsKeyIn q key at steps
     → place.index + 1 < 2 ^ 64 → EachIs (SlotKept (text_of texts.source) read) old
     → (s : Standing) → line_at read old place ≡ Some s
     → let front = lines_before read old place.slot place.index in EachIs (SlotKept (text_of texts.source) read) now
-    × (slots_standing read now ≡ front ++ (line_put q (spacing_put manner front s) name v manner s s.outline.newline ++ lines_from read old place.slot (place.index + 1)))
+    × (slots_standing read now ≡ front ++ (line_put q (spacing_put manner front s) key v manner s s.outline.newline ++ lines_from read old place.slot (place.index + 1)))
 
 -- so it is of the lines of a tree
 abbrev pub TreePutsBehind : Address → ℕ → List (String Global) → ValueOutline → Read → Position → Tree → Tree → Type 0

@@ -69,7 +69,7 @@ pub record PutsInSection (q : Address) (name : List ℕ) (v : ValueOutline) (man
   pub was : old ≡ front ++ line ∷ back
   pub last : has_pair back ≡ false
   pub below : StandsBelow q front line
-  pub is : now ≡ front ++ (line_put q (spacing_put manner front line) name v manner line line.outline.newline ++ back)
+  pub is : now ≡ front ++ (line_put q (spacing_put manner front line) (name ∷ []) v manner line line.outline.newline ++ back)
 
 -- so it is put into a table that has a header and that no dotted key makes
 abbrev pub InsertsBelow : Address → Address → List (String Global) → ValueOutline → Manner → List ℕ → Read → List Slot → List Slot → Type 0

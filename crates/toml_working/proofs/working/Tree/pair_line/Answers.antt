@@ -1,8 +1,9 @@
-use Rattle.std.proofs.Common.{◌≡◌, ◌∙◌, ℕ, List, Some, ap, arith, length}
+use Rattle.std.proofs.Common.{◌≡◌, ◌∙◌, ℕ, Some, ap, arith, length}
 use Rattle.toml_layout.specs.OpenOutlines.{leaf_text, value}
 use Rattle.toml_working.proofs.Answered.{if_ok_three}
+use Rattle.toml_names.specs.mentions.Keys.{Key}
 use Rattle.toml_names.specs.model.Addresses.{Address}
-use Rattle.toml_working.specs.Putting.{IsNameIn}
+use Rattle.toml_working.specs.Putting.{IsKeyIn}
 use Rattle.toml_working.proofs.PutRoot.{pair_line_is, parts_named}
 use Rattle.toml_working.proofs.working.Tree.pair_line.Goals as goal
 
@@ -10,8 +11,8 @@ pub returns : goal.returns
 returns c =
     let it = c.args.insertion in
     let steps = it.spelled.now in
-    let same = λ (q : Address) (name : List ℕ) (at_base : c.args.base ≡ length q) (named : IsNameIn q name it.at.now steps).
-    parts_named q name it.at.now steps c.split_at.result.1.now c.min.result named
+    let same = λ (q : Address) (key : Key) (at_base : c.args.base ≡ length q) (named : IsKeyIn q key it.at.now steps).
+    parts_named q key it.at.now steps c.split_at.result.1.now c.min.result named
     (λ within. omega (arith, at_base, within, c.min.ensures)) c.split_at.ensures.back in
     if_ok_three _ _ _ _ c.new.result
     (λ l address base outline.
