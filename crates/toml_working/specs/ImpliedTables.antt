@@ -12,13 +12,15 @@ use Rattle.toml_layout.specs.declared.tree.Brackets.TheVariants.{One}
 use Rattle.toml_layout.specs.Outlines.{ValueOutline}
 use Rattle.toml_layout.specs.Spacings.{Spacing, laid_out}
 use Rattle.toml_working.specs.declared.lines.Sought.TheVariants as sought
+use Rattle.toml_working.specs.declared.working.Position.{Position}
 use Rattle.toml_working.specs.declared.working.Tree.{Tree}
 use Rattle.toml_working.specs.FirstKeys.{like_before, spacing_like}
 use Rattle.toml_working.specs.Headers.{new_header}
 use Rattle.toml_working.specs.InsertStanding.{is_comment, new_standing_in}
 use Rattle.toml_working.specs.Manners.{Manner}
+use Rattle.toml_working.specs.Placing.{lines_before}
 use Rattle.toml_working.specs.Putting.{manner}
-use Rattle.toml_working.specs.Seeing.{is_sought_line}
+use Rattle.toml_working.specs.Seeing.{IsSoughtAt, LacksSought, is_sought_line}
 use Rattle.toml_working.specs.Spellings.{AreSteps}
 use Rattle.toml_working.specs.Standing.{Standing, Read, AreOrdered}
 use Rattle.toml_working.specs.Stands.{Stands}
@@ -57,7 +59,15 @@ pub record AreImplied (q : Address) (ss : List Standing) : Type 0 where
   pub no_header : list_any (is_sought_line sought.Header q) ss ≡ false
   pub no_dotted : list_any (is_sought_line sought.Dotted q) ss ≡ false
 
--- so it is put in on lines of a tree, of which none has a value at the table or above it
+-- so it is put in, where the line at the place is the first header below the table
+abbrev pub PutsAhead : Address → Address → List (String Global) → ValueOutline → Read → Position → Tree → Tree → Type 0
+PutsAhead q at steps v read next old now = (name : List ℕ) → at ≡ child q name → AreSteps at steps → (ss : List Standing)
+    → Stands (text_of old.texts.source) read old.slots.items ss
+    → IsSoughtAt sought.HeaderBelow q read old.slots.items next
+    → LacksSought sought.HeaderBelow q (lines_before read old.slots.items next.slot next.index)
+    → Stands (text_of old.texts.source) read now.slots.items (put_ahead q name v (manner old) [] ss)
+
+-- so it is put in on lines of a tree, as the table rules have them
 abbrev pub TreePutsAhead : Address → Address → List (String Global) → ValueOutline → Read → Tree → Tree → Type 0
 TreePutsAhead q at steps v read old now = (name : List ℕ) → at ≡ child q name → AreSteps at steps → (ss : List Standing)
     → Stands (text_of old.texts.source) read old.slots.items ss → AreOrdered ss → AreImplied q ss

@@ -5,6 +5,7 @@ ghost use Rattle.toml_layout.specs.OpenOutlines.{leaf_text, value};
 ghost use Rattle.toml_working.specs.Putting.{EndsOne, EndsSlot, EndsSlots, IsElsewhere, IsPairLine};
 ghost use Rattle.toml_working.specs.Putting.{PutsSlot, PutsSlots, TreeEndsBefore, TreeInserts, TreeInsertsFirst, TreePutsBehind};
 ghost use Rattle.toml_working.specs.HeldLines.{PutsInValue};
+ghost use Rattle.toml_working.specs.ImpliedTables.{PutsAhead};
 ghost use Rattle.toml_working.specs.Sections.{TreeInsertsBelow, TreePutsBelow};
 ghost use Rattle.toml_working.specs.Starting.{read_of};
 ghost use Rattle.toml_working.specs.Stands.{KeepsRest};
@@ -210,7 +211,9 @@ impl<'x> Tree<'x> {
         parent: &Address,
         insertion: Insertion<'_, 'x>,
     ) -> Result<bool, AllocError>
-        ensures { OnOk result (KeepsRest self.old self.new) }
+        ensures rest { OnOk result (KeepsRest self.old self.new) }
+        ensures put { let it = insertion.entry in
+            OnOk result (PutsAhead parent.now it.at.now it.spelled.now (value it.new) (read_of before.entry) next self.old self.new) }
     {
         let header = NewHeader {
             at: parent,
