@@ -14,6 +14,7 @@ pub mod CountedAlike
 pub mod CountedArrays
 pub mod Deep
 pub mod DocumentSections
+pub mod DottedPlace
 pub mod ElementCounted
 pub mod ElementHeaded
 pub mod ElementKept
@@ -37,6 +38,7 @@ pub mod FollowedFacts
 pub mod FollowedPlace
 pub mod FollowedSplit
 pub mod Formed
+pub mod FreshKeys
 pub mod HeaderCounted
 pub mod HeaderFacts
 pub mod HeaderFollow

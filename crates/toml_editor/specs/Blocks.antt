@@ -1,10 +1,11 @@
 -- What one line more, or one fewer, names: the numbers of lines aside, a block in what the others name.
-use Rattle.std.specs.Prelude.{◌≡◌, ℕ, List, [], ◌∷◌, ◌++◌, map}
+use Rattle.std.specs.Prelude.{◌≡◌, ℕ, List, [], ◌∷◌, ◌++◌, map, Any}
+use Rattle.toml_tree.specs.Spells.{EachIs}
 use Rattle.toml_tree.specs.Tree.{Value, Line}
 use Rattle.toml_names.specs.declared.mentions.mention.Role.TheVariants.{Passed, Valued, Tables, Element}
 use Rattle.toml_names.specs.declared.model.address.Step.TheVariants.{Name, Index}
 use Rattle.toml_names.specs.model.Addresses.{Address, child, element}
-use Rattle.toml_names.specs.mentions.Mentions.{Named, an_array, named, table_at, ends_table, value_named, inside}
+use Rattle.toml_names.specs.mentions.Mentions.{Named, a_table, an_array, named, table_at, ends_table, value_named, inside}
 
 -- the same thing, as of the first line
 abbrev pub unnumbered : Named → Named
@@ -20,6 +21,10 @@ pub record IsPut (old block new : List Named) : Type 0 where
   pub back : List Named
   pub before : old ≡ front ++ back
   pub after : new ≡ front ++ (block ++ back)
+
+-- tables that are named, each at the address or above it, and named once more
+abbrev pub AreTablesAgain : Address → List Named → List Named → Type 0
+AreTablesAgain q old tables = EachIs (λ t. (t.kind ≡ a_table) × ((rest : Address) × (q ≡ t.address ++ rest)) × Any (λ m. (m.address ≡ t.address) × (m.kind ≡ a_table)) old) tables
 
 -- what a value at an address names: itself, and what is in it
 abbrev pub value_block : Address → Value → List Named

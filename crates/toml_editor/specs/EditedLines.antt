@@ -14,13 +14,13 @@ use Rattle.toml_layout.specs.Holders.{parent_of}
 use Rattle.toml_working.specs.Heading.{with_header_plainly}
 use Rattle.toml_working.specs.HeadingFollowed.{with_header_following}
 use Rattle.toml_working.specs.HeaderStanding.{blank_standing}
-use Rattle.toml_working.specs.Inserting.{insert_in}
+use Rattle.toml_working.specs.InsertingInTables.{insert_in}
 use Rattle.toml_working.specs.Manners.{Manner}
 use Rattle.toml_working.specs.Removing.{remove_lines}
 use Rattle.toml_working.specs.Renaming.{rename_lines}
 use Rattle.toml_working.specs.Setting.{set_lines}
 use Rattle.toml_working.specs.Standing.{standing}
-use Rattle.toml_working.specs.Premises.{HasLine, HasSection, HasValue, IsInNoValue}
+use Rattle.toml_working.specs.Premises.{HasLine, HasTable, HasValue, IsInNoValue}
 
 -- the header line of what is to stand at `p`, right below `q`, put in among lines
 abbrev pub with_header : Layout → Address → Brackets → Address → Manner → List Line → List Line
@@ -31,7 +31,7 @@ with_header layouts.Follow q brackets p manner lines = with_header_following q b
 abbrev pub AreEdited : Profile → Change → Manner → List Line → List Line → Type 0
 AreEdited profile (set p text) manner old new = (v : Value) × IsValueIn profile v text × HasValue old p × (new ≡ set_lines p v old)
 AreEdited profile (insert p text) manner old new =
-    (v : Value) × IsValueIn profile v text × (q : Address) × (name : List ℕ) × (p ≡ child q name) × HasSection old q × (new ≡ insert_in q name v manner old)
+    (v : Value) × IsValueIn profile v text × (q : Address) × (name : List ℕ) × (p ≡ child q name) × HasTable old q × (new ≡ insert_in q name v manner old)
 AreEdited profile (rename p to) manner old new = new ≡ rename_lines p to old
 AreEdited profile (remove p) manner old new = HasLine old p × (new ≡ remove_lines p old)
 AreEdited profile (new_section p) manner old new =

@@ -21,7 +21,7 @@ use Rattle.toml_working.specs.HeldLines.{SetsEach, has_container_at}
 use Rattle.toml_working.specs.Standing.{AreOrdered, Standing, holds, standing}
 use Rattle.toml_working.specs.Manners.{manner_of}
 use Rattle.toml_editor.specs.CertifiedLists.{ArePlain}
-use Rattle.toml_editor.specs.SpelledEdits.{AreSteps}
+use Rattle.toml_working.specs.Spellings.{AreSteps}
 use Rattle.toml_editor.specs.Steps.{AreWritten}
 
 -- on lines the value of this text was put in at the address, by the rules of the layout, and nothing else has changed

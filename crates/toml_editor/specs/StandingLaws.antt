@@ -13,8 +13,11 @@ use Rattle.toml_names.specs.model.Addresses.{Address, child}
 use Rattle.toml_names.specs.model.Places.{IsNamed}
 use Rattle.toml_working.specs.RenameStanding.{rename_standing}
 use Rattle.toml_working.specs.Renaming.{rename_lines}
+use Rattle.toml_working.specs.DottedTables.{AreDotted, PutsDotted}
+use Rattle.toml_working.specs.ImpliedTables.{AreImplied, put_ahead}
 use Rattle.toml_working.specs.InsertStanding.{AreRooted, insert_standing}
-use Rattle.toml_working.specs.Inserting.{insert_in, insert_lines}
+use Rattle.toml_working.specs.Inserting.{insert_lines}
+use Rattle.toml_working.specs.InsertingInTables.{insert_in}
 use Rattle.toml_working.specs.Manners.{Manner}
 use Rattle.toml_working.specs.RemoveStanding.{remove_standing}
 use Rattle.toml_working.specs.Removing.{remove_lines}
@@ -25,7 +28,7 @@ use Rattle.toml_working.specs.Seeing.{AreHeaded, is_sought_line}
 use Rattle.toml_working.specs.Standing.{AreOrdered, Standing, standing, set_standing, has}
 use Rattle.toml_layout.specs.Outlines.{ValueOutline}
 use Rattle.toml_layout.specs.TreeOutlines.{value_outline}
-use Rattle.toml_working.specs.Premises.{HasLine, HasSection, HasValue}
+use Rattle.toml_working.specs.Premises.{HasDotted, HasImplied, HasLine, HasSection, HasValue}
 
 -- Law: places do not count.
 abbrev pub PlacesDoNotStand : Type 0
@@ -76,6 +79,27 @@ OnePlaceInSection = (q : Address) (name : List ℕ) (v : ValueOutline) (manner :
 abbrev pub HeaderIsAlone : Type 0
 HeaderIsAlone = (q : Address) (lines : List Line) → KeepsRules (named lines) → list_any (is_sought_line sought.Header q) (standing lines) ≡ true
     → AreHeaded q (standing lines)
+
+-- Laws: the lines after an `insert` in a table that dotted keys make have the new line in the section of one that makes it;
+abbrev pub InsertStandsAmong : Type 0
+InsertStandsAmong = (q : Address) (name : List ℕ) (new : Value) (manner : Manner) (lines : List Line) → AreLines lines → ¬ (q ≡ []) → HasDotted lines q
+    → PutsDotted q name (value_outline new) manner (standing lines) (standing (insert_in q name new manner lines))
+
+-- this is one place under the table rules, and the key of each line that makes the table has the names behind its section.
+abbrev pub OnePlaceAmong : Type 0
+OnePlaceAmong = (q : Address) (name : List ℕ) (v : ValueOutline) (manner : Manner) (lines : List Line) (now new : List Standing)
+    → KeepsRules (named lines) → PutsDotted q name v manner (standing lines) now → PutsDotted q name v manner (standing lines) new → now ≡ new
+
+abbrev pub DottedIsKeyed : Type 0
+DottedIsKeyed = (q : Address) (lines : List Line) → HasDotted lines q → AreDotted q (standing lines)
+
+-- Laws: the lines after an `insert` in a table that longer headers imply have a new header and the new line before the first of these.
+abbrev pub InsertStandsAhead : Type 0
+InsertStandsAhead = (q : Address) (name : List ℕ) (new : Value) (manner : Manner) (lines : List Line) → AreLines lines → ¬ (q ≡ []) → KeepsRules (named lines)
+    → HasImplied lines q → standing (insert_in q name new manner lines) ≡ put_ahead q name (value_outline new) manner [] (standing lines)
+
+abbrev pub ImpliedIsBelow : Type 0
+ImpliedIsBelow = (q : Address) (lines : List Line) → HasImplied lines q → AreImplied q (standing lines)
 
 -- Laws: the value of a key at the root is that of a line,
 abbrev pub RootPairIsLine : Type 0

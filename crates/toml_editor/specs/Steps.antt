@@ -15,7 +15,7 @@ use Rattle.toml_edits.specs.After.{IsAfter}
 use Rattle.toml_edits.specs.Edits.{Change, set, insert, rename, remove, new_section, new_element}
 use Rattle.toml_edits.specs.Faults.{IsFault}
 use Rattle.toml_edits.specs.Lists.{Lead}
-use Rattle.toml_working.specs.Premises.{HasLine, HasSection, HasValue, IsInNoValue}
+use Rattle.toml_working.specs.Premises.{HasLine, HasTable, HasValue, IsInNoValue}
 use Rattle.toml_editor.specs.EditedLines.{IsWritten, manner_after}
 use Rattle.toml_working.specs.Manners.{Manner, style_of}
 
@@ -31,11 +31,11 @@ abbrev pub GoodTextsAreDocuments : Type 0
 GoodTextsAreDocuments = (profile : Profile) (text : List ℕ) → IsText text
     → ((kinds : Kinds) × IsGoodText profile text kinds) ↔ IsDocumentIn profile text
 
--- the edit is plain on these lines: a `set` where a value stands, a `rename`, an `insert` of a name at the root or in a table that has a
--- header, a `remove` of a value of a line, a `section` or an `element` above which no line's value stands
+-- the edit is plain on these lines: a `set` where a value stands, a `rename`, an `insert` of a name at the root or in a table that is
+-- no value, a `remove` of a value of a line, a `section` or an `element` above which no line's value stands
 abbrev pub IsPlain : List Line → Change → Type 0
 IsPlain lines (set p text) = HasValue lines p
-IsPlain lines (insert p text) = (q : Address) × (name : List ℕ) × (p ≡ child q name) × HasSection lines q
+IsPlain lines (insert p text) = (q : Address) × (name : List ℕ) × (p ≡ child q name) × HasTable lines q
 IsPlain lines (rename p to) = Unit {0}
 IsPlain lines (remove p) = HasLine lines p
 IsPlain lines (new_section p) = (q : Address) × (name : List ℕ) × (p ≡ child q name) × IsInNoValue lines q

@@ -5,22 +5,25 @@ use Rattle.toml_scalar.specs.Spelling.{spelled}
 use Rattle.toml_tree.specs.Bare.{fresh}
 use Rattle.toml_tree.specs.Spells.{joined, value_parts, AreLines}
 use Rattle.toml_tree.specs.Tree.{Piece, Value, Line}
+use Rattle.toml_names.specs.mentions.Keys.{Key}
 use Rattle.toml_names.specs.mentions.Mentions.{named}
 use Rattle.toml_names.specs.mentions.Rules.{KeepsRules}
-use Rattle.toml_names.specs.model.Addresses.{Address, child}
+use Rattle.toml_names.specs.model.Addresses.{Address, below, child}
 use Rattle.toml_units.specs.declared.unit.UnitKind.TheVariants as kinds
 use Rattle.toml_units.specs.Units.{TextUnit, inside, comment_units, units}
 use Rattle.toml_layout.specs.OpenOutlines.{closing_brackets, opening_brackets}
+use Rattle.toml_layout.specs.declared.layout.Layout.{Layout}
 use Rattle.toml_layout.specs.declared.layout.Layout.TheVariants as layouts
 use Rattle.toml_layout.specs.declared.tree.Brackets.{Brackets}
+use Rattle.toml_layout.specs.declared.tree.Brackets.TheVariants.{One}
 use Rattle.toml_working.specs.Headers.{names_of}
-use Rattle.toml_working.specs.Inserting.{insert_in}
+use Rattle.toml_working.specs.InsertingInTables.{insert_in}
 use Rattle.toml_working.specs.Manners.{Manner}
 use Rattle.toml_working.specs.Removing.{empty_table, remove_lines}
 use Rattle.toml_layout.specs.Spacings.{Spacing, plain_spacing}
 use Rattle.toml_editor.specs.RemoveLaws.{LeavesTable, TakesTable}
 use Rattle.toml_layout.specs.Holders.{parent_of}
-use Rattle.toml_working.specs.Premises.{HasSection}
+use Rattle.toml_working.specs.Premises.{HasTable}
 
 -- a keyval line: itself, what lies in its value, and its comment; to the table in which it stands lead so many steps
 abbrev pub pair_line_units : Piece → Address → ℕ → Value → Option Piece → List TextUnit
@@ -61,9 +64,9 @@ pub record IsBlockTaken (old block new : List TextUnit) : Type 0 where
   pub after : new ≡ front ++ (left_of back ++ back)
   pub next : BeginWithLine back
 
--- the bytes of a new line with this whitespace, but for its newline
-abbrev pub pair_text : Spacing → List ℕ → Value → List ℕ
-pair_text s name v = s.ws ++ (spelled name ++ (s.before_equals ++ 0x3D ∷ (s.after_equals ++ joined (value_parts v))))
+-- the bytes of a new line with this whitespace, but for its newline: the names of its key, spelled, with `.` between them
+abbrev pub pair_text : Spacing → Key → Value → List ℕ
+pair_text s key v = s.ws ++ (join_by spelled (0x2E ∷ []) key ++ (s.before_equals ++ 0x3D ∷ (s.after_equals ++ joined (value_parts v))))
 
 -- the bytes of a new header line with this whitespace, but for its newline: the names, spelled, with `.` between them, in the brackets
 abbrev pub header_text : Brackets → List ℕ → Address → List ℕ
@@ -76,12 +79,19 @@ IsHeaderUnitPut brackets p ws old new =
     let line = header_line_units (fresh (header_text brackets ws p)) p in
     IsBlockPut old line new ⊎ IsBlockPut old (line ++ line_of_nothing ∷ []) new
 
--- Law: the units of the new lines are those of the old ones and those of the new line, which has some whitespace, in layout `Plain` that of
--- ` = `.
+-- The units of the new line of an `insert`, by a key in the table of a section; or those of a new header line, and of the line behind it. In layout
+-- `Plain` the whitespace is that of ` = `.
+pub data IsUnitsInserted (q : Address) (name : List ℕ) (v : Value) (layout : Layout) (old new : List TextUnit) : Type 0 where
+  OneLine : (section : Address) → (key : Key) → child q name ≡ below section key → (s : Spacing) → (layout ≡ layouts.Plain → s ≡ plain_spacing)
+      → IsBlockPut old (pair_line_units (fresh (pair_text s key v)) (child q name) (length section) v None) new → IsUnitsInserted q name v layout old new
+  Both : (ws : List ℕ) → (s : Spacing) → (layout ≡ layouts.Plain → (ws ≡ []) × (s ≡ plain_spacing))
+      → IsBlockPut old (header_line_units (fresh (header_text One ws q)) q ++ pair_line_units (fresh (pair_text s (name ∷ []) v)) (child q name) (length q) v None) new
+      → IsUnitsInserted q name v layout old new
+
+-- Law: these are the units that come with it.
 abbrev pub InsertUnits : Type 0
-InsertUnits = (q : Address) (name : List ℕ) (v : Value) (manner : Manner) (lines : List Line) → HasSection lines q
-    → (s : Spacing) × (manner.layout ≡ layouts.Plain → s ≡ plain_spacing)
-    × IsBlockPut (units lines) (pair_line_units (fresh (pair_text s name v)) (child q name) (length q) v None) (units (insert_in q name v manner lines))
+InsertUnits = (q : Address) (name : List ℕ) (v : Value) (manner : Manner) (lines : List Line) → HasTable lines q
+    → IsUnitsInserted q name v manner.layout (units lines) (units (insert_in q name v manner lines))
 
 -- Laws: the units of the new lines are those of the old ones without those of the line, where the table right above the value stays;
 abbrev pub RemoveUnits : Type 0

@@ -5,6 +5,7 @@ use Rattle.std.proofs.lemmas.Bool.{cond-true, cond-false}
 use Rattle.std.proofs.lemmas.Option.{none-some}
 use Rattle.toml_tree.specs.Spells.{EachIs}
 use Rattle.toml_tree.specs.Tree.{Value, Expr, BlankLine, KeyValLine, TableLine, ArrayTableLine, Line}
+use Rattle.toml_names.specs.mentions.Keys.{Key}
 use Rattle.toml_names.specs.mentions.Mentions.{Named, named, named_by, section}
 use Rattle.toml_names.specs.model.Addresses.{Address}
 use Rattle.toml_names.specs.reader.Names.{own_address}
@@ -64,19 +65,19 @@ keyed_stands xs l keyed = by l.expr refl keyed
     by (TableLine ws header tail) is h = absurd h
     by (ArrayTableLine ws header tail) is h = absurd h
 
-module _ (q : Address) (name : List ℕ) (v : Value) (manner : Manner) where
+module _ (key : Key) (v : Value) (manner : Manner) where
   -- the last keyval line before the first header
-  record IsLastOne (spacing : Line → Spacing) (old new : List Line) : Type 0 where
-    mid : List Line
-    line : Line
-    back : List Line
-    was : old ≡ mid ++ line ∷ back
-    headless : EachIs (λ (l : Line). IsHeadless l.expr) mid
-    keyed : IsKeyed line.expr
-    last : lines.has_pair back ≡ false
-    is : new ≡ mid ++ lines.line_put (spacing line) name v manner line back
+  pub record IsLastOne (spacing : Line → Spacing) (old new : List Line) : Type 0 where
+    pub mid : List Line
+    pub line : Line
+    pub back : List Line
+    pub was : old ≡ mid ++ line ∷ back
+    pub headless : EachIs (λ (l : Line). IsHeadless l.expr) mid
+    pub keyed : IsKeyed line.expr
+    pub last : lines.has_pair back ≡ false
+    pub is : new ≡ mid ++ lines.line_put (spacing line) key v manner line back
 
-  last_one : (spacing : Line → Spacing) (ls : List Line) → lines.has_pair ls ≡ true → IsLastOne spacing ls (lines.put_last lines.has_pair spacing name v manner ls)
+  pub last_one : (spacing : Line → Spacing) (ls : List Line) → lines.has_pair ls ≡ true → IsLastOne spacing ls (lines.put_last lines.has_pair spacing key v manner ls)
   last_one spacing [] has = absurd (true≢false (sym has))
   last_one spacing (l ∷ ls) has = by (lines.has_pair ls) refl (last_one spacing ls)
     where
@@ -86,14 +87,14 @@ module _ (q : Address) (name : List ℕ) (v : Value) (manner : Manner) where
       head (TableLine ws header tail) h = absurd (true≢false (sym h))
       head (ArrayTableLine ws header tail) h = absurd (true≢false (sym h))
 
-      key : lines.has_pair ls ≡ false → (e : Expr) → elim e [ BlankLine b ↦ lines.has_pair ls | KeyValLine ws pair tail ↦ true | TableLine ws header tail ↦ false | ArrayTableLine ws header tail ↦ false ] ≡ true → IsKeyed e
-      key none (BlankLine b) h = absurd (true≢false (sym h ∙ none))
-      key none (KeyValLine ws pair tail) h = tt
-      key none (TableLine ws header tail) h = absurd (true≢false (sym h))
-      key none (ArrayTableLine ws header tail) h = absurd (true≢false (sym h))
+      keyed_at : lines.has_pair ls ≡ false → (e : Expr) → elim e [ BlankLine b ↦ lines.has_pair ls | KeyValLine ws pair tail ↦ true | TableLine ws header tail ↦ false | ArrayTableLine ws header tail ↦ false ] ≡ true → IsKeyed e
+      keyed_at none (BlankLine b) h = absurd (true≢false (sym h ∙ none))
+      keyed_at none (KeyValLine ws pair tail) h = tt
+      keyed_at none (TableLine ws header tail) h = absurd (true≢false (sym h))
+      keyed_at none (ArrayTableLine ws header tail) h = absurd (true≢false (sym h))
 
-      by : (b : Bool) → lines.has_pair ls ≡ b → (lines.has_pair ls ≡ true → IsLastOne spacing ls (lines.put_last lines.has_pair spacing name v manner ls))
-          → IsLastOne spacing (l ∷ ls) (lines.put_last lines.has_pair spacing name v manner (l ∷ ls))
+      by : (b : Bool) → lines.has_pair ls ≡ b → (lines.has_pair ls ≡ true → IsLastOne spacing ls (lines.put_last lines.has_pair spacing key v manner ls))
+          → IsLastOne spacing (l ∷ ls) (lines.put_last lines.has_pair spacing key v manner (l ∷ ls))
       by true here more =
           let found = more here in
           record {
@@ -112,11 +113,12 @@ module _ (q : Address) (name : List ℕ) (v : Value) (manner : Manner) where
         back = ls;
         was = refl;
         headless = tt;
-        keyed = key here l.expr has;
+        keyed = keyed_at here l.expr has;
         last = here;
         is = cond-false _ _ _ here;
       }
 
+module _ (q : Address) (name : List ℕ) (v : Value) (manner : Manner) where
   -- The line is put in behind one of the table's section.
   pub record IsPutBelow (old new : List Line) : Type 0 where
     pub front : List Line
@@ -124,7 +126,7 @@ module _ (q : Address) (name : List ℕ) (v : Value) (manner : Manner) where
     pub back : List Line
     pub spacing : Spacing
     pub was : old ≡ front ++ line ∷ back
-    pub is : new ≡ front ++ lines.line_put spacing name v manner line back
+    pub is : new ≡ front ++ lines.line_put spacing (name ∷ []) v manner line back
     pub below : StandsBelow q (standing front) (line_stands (named front) line)
     pub last : lines.has_pair back ≡ false
     pub spaced : spacing ≡ spacing_put manner (standing front) (line_stands (named front) line)
@@ -152,10 +154,10 @@ module _ (q : Address) (name : List ℕ) (v : Value) (manner : Manner) where
 
   -- behind the header, or behind the last keyval line of its section
   header_place : (before : List Line) (h : Line) (ls : List Line) → lines.is_header_of q before h ≡ true
-      → IsPutBelow (before ++ h ∷ ls) (before ++ lines.put_last lines.has_pair (lines.spacing_put manner before) name v manner (h ∷ ls))
+      → IsPutBelow (before ++ h ∷ ls) (before ++ lines.put_last lines.has_pair (lines.spacing_put manner before) (name ∷ []) v manner (h ∷ ls))
   header_place before h ls heads_it = by (lines.has_pair ls) refl
     where
-      by : (b : Bool) → lines.has_pair ls ≡ b → IsPutBelow (before ++ h ∷ ls) (before ++ lines.put_last lines.has_pair (lines.spacing_put manner before) name v manner (h ∷ ls))
+      by : (b : Bool) → lines.has_pair ls ≡ b → IsPutBelow (before ++ h ∷ ls) (before ++ lines.put_last lines.has_pair (lines.spacing_put manner before) (name ∷ []) v manner (h ∷ ls))
       by false none = record {
         front = before;
         line = h;
@@ -168,7 +170,7 @@ module _ (q : Address) (name : List ℕ) (v : Value) (manner : Manner) where
         spaced = header_spaced before h;
       }
       by true has =
-          let one = last_one (lines.spacing_put manner before) ls has in
+          let one = last_one (name ∷ []) v manner (lines.spacing_put manner before) ls has in
           let front = before ++ h ∷ one.mid in
           let split : standing front ≡ standing before ++ line_stands (named before) h ∷ standing_from (named (before ++ h ∷ [])) (length (before ++ h ∷ [])) one.mid =
           standing_behind before (h ∷ one.mid) []
@@ -182,7 +184,7 @@ module _ (q : Address) (name : List ℕ) (v : Value) (manner : Manner) where
             was = ap (λ r. before ++ h ∷ r) one.was ∙ sym (append_assoc before (h ∷ one.mid) (one.line ∷ one.back));
             is =
                 ap (λ r. before ++ r) (cond-true _ _ _ has ∙ ap (λ r. h ∷ r) one.is)
-                ∙ sym (append_assoc before (h ∷ one.mid) (lines.line_put (lines.spacing_put manner before one.line) name v manner one.line one.back));
+                ∙ sym (append_assoc before (h ∷ one.mid) (lines.line_put (lines.spacing_put manner before one.line) (name ∷ []) v manner one.line one.back));
             below = inr (inr (
               keyed_stands (named front) one.line one.keyed,
               (

@@ -1,5 +1,6 @@
 -- The lines after an `insert` in a table with a header, by what finds them.
 use Rattle.std.proofs.Common.{◌≡◌, ◌∙◌, inl, inr, ℕ, ◌+◌, List, [], ◌∷◌, ◌++◌, length, refl, sym, ap, subst}
+use Rattle.std.proofs.lemmas.Bool.{cond-true}
 use Rattle.toml_tree.specs.Spells.{AreLines}
 use Rattle.toml_tree.specs.Tree.{Value, Line}
 use Rattle.toml_names.specs.mentions.Mentions.{named, named_by, section}
@@ -37,13 +38,15 @@ module _ (q : Address) (name : List ℕ) (v : Value) (manner : Manner) where
         last = has_same put.back (xs ++ named_by xs n l.expr) (n + 1) ∙ put.last;
         below = put.below;
         is =
-            ap standing put.is ∙ standing_behind put.front (lines.line_put put.spacing name v manner l put.back) []
+            ap standing put.is ∙ standing_behind put.front (lines.line_put put.spacing (name ∷ []) v manner l put.back) []
             ∙ ap (λ r. standing put.front ++ r)
-            (put_stands q name v manner put.spacing xs n l put.back (back_formed put.front put.back l (subst AreLines put.was are)) there
-            ∙ ap (λ s. line_put q s name (value_outline v) manner (line_stands xs l) (line_outline l).newline ++ behind) put.spaced);
+            (put_stands q name [] v manner put.spacing xs n l put.back (back_formed put.front put.back l (subst AreLines put.was are)) there
+            ∙ ap (λ s. line_put q s (name ∷ []) (value_outline v) manner (line_stands xs l) (line_outline l).newline ++ behind) put.spaced);
       }
 
 pub insert_stands_below : InsertStandsBelow
 insert_stands_below [] name v manner ls are some there = absurd (some refl)
 insert_stands_below (s ∷ q) name v manner ls are some (inl none) = cc
-insert_stands_below (s ∷ q) name v manner ls are some (inr header) = below_puts (s ∷ q) name v manner ls _ are (below_place (s ∷ q) name v manner ls header)
+insert_stands_below (s ∷ q) name v manner ls are some (inr header) =
+    subst (λ t. PutsInSection (s ∷ q) name (value_outline v) manner (standing ls) (standing t)) (sym (cond-true _ _ _ header))
+    (below_puts (s ∷ q) name v manner ls _ are (below_place (s ∷ q) name v manner ls header))

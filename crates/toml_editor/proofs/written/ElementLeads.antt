@@ -12,7 +12,8 @@ use Rattle.toml_names.specs.model.Addresses.{Address, child, element}
 use Rattle.toml_names.specs.model.Data.{IsDataOf, Kinds}
 use Rattle.toml_names.specs.reader.Names.{own_address}
 use Rattle.toml_layout.specs.declared.tree.Brackets.TheVariants.{One, Two}
-use Rattle.toml_working.specs.Heading.{header_expr, key_named}
+use Rattle.toml_working.specs.FreshKeys.{key_named}
+use Rattle.toml_working.specs.Heading.{header_expr}
 use Rattle.toml_working.specs.Removing.{no_blank}
 use Rattle.toml_working.specs.Standing.{holds, is_below, standing, standing_from}
 use Rattle.toml_editor.proofs.written.Counted.{AreLast}

@@ -11,10 +11,12 @@ use Rattle.toml_names.specs.model.Addresses.{Address, child, element}
 use Rattle.toml_names.specs.reader.Names.{header_end}
 use Rattle.toml_names.proofs.Proved.{alike_name_the_same}
 use Rattle.toml_layout.specs.declared.tree.Brackets.TheVariants.{Two}
-use Rattle.toml_working.specs.Heading.{header_expr, key_named}
+use Rattle.toml_working.specs.FreshKeys.{key_named}
+use Rattle.toml_working.specs.Heading.{header_expr}
 use Rattle.toml_working.specs.Headers.{names_of}
 use Rattle.toml_editor.specs.Blocks.{IsPut, element_block, ends_element, named_plain}
-use Rattle.toml_editor.proofs.written.HeaderNamed.{HasNames, follows, header_names_some, names_of_element, put_block, put_names}
+use Rattle.toml_editor.proofs.written.FreshKeys.{HasNames}
+use Rattle.toml_editor.proofs.written.HeaderNamed.{follows, header_names_some, names_of_element, put_block, put_names}
 use Rattle.toml_editor.proofs.written.HeaderPut.{IsHeaderPut}
 use Rattle.toml_editor.proofs.written.Plain.{plain_alike}
 

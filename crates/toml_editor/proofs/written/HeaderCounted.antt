@@ -12,7 +12,8 @@ use Rattle.toml_names.specs.reader.Names.{header_end, own_address}
 use Rattle.toml_names.proofs.Proved.{count-append}
 use Rattle.toml_layout.specs.declared.tree.Brackets.{Brackets}
 use Rattle.toml_layout.specs.declared.tree.Brackets.TheVariants.{One, Two}
-use Rattle.toml_working.specs.Heading.{header_expr, key_named}
+use Rattle.toml_working.specs.FreshKeys.{key_named}
+use Rattle.toml_working.specs.Heading.{header_expr}
 use Rattle.toml_working.specs.Headers.{names_of}
 use Rattle.toml_working.specs.Standing.{Standing, is_below, line_stands, standing_from}
 use Rattle.toml_editor.specs.Blocks.{named_plain}

@@ -40,7 +40,7 @@ use Rattle.toml_working.specs.Premises.{IsInNoValue}
 use Rattle.toml_editor.specs.EditedLines.{with_header, manner_behind}
 use Rattle.toml_editor.specs.Exact.{Follows, IsAt, WritesHeader}
 use Rattle.toml_editor.specs.PlainTexts.{IsRefusedIn}
-use Rattle.toml_editor.specs.SpelledEdits.{AreSteps, step_spelled}
+use Rattle.toml_working.specs.Spellings.{AreSteps, step_spelled}
 use Rattle.toml_editor.specs.Steps.{IsPlain}
 use Rattle.toml_editor.proofs.written.Closed.{no_end}
 use Rattle.toml_editor.proofs.written.Follow.{follows}

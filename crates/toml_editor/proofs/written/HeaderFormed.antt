@@ -12,12 +12,14 @@ use Rattle.toml_names.specs.mentions.Mentions.{named}
 use Rattle.toml_names.specs.model.Addresses.{Address}
 use Rattle.toml_layout.specs.declared.tree.Brackets.{Brackets}
 use Rattle.toml_layout.specs.declared.tree.Brackets.TheVariants as brackets
-use Rattle.toml_working.specs.Heading.{dotted_name, header_expr, header_line, key_named}
+use Rattle.toml_working.specs.FreshKeys.{dotted_name, key_named}
+use Rattle.toml_working.specs.Heading.{header_expr, header_line}
 use Rattle.toml_working.specs.Headers.{names_of}
 use Rattle.toml_working.specs.Removing.{empty_line}
 use Rattle.toml_editor.proofs.Each.{each_append, each_front, each_back}
 use Rattle.toml_editor.proofs.written.Formed.{line_before}
-use Rattle.toml_editor.proofs.written.HeaderNamed.{HasNames, header_names_some}
+use Rattle.toml_editor.proofs.written.FreshKeys.{HasNames}
+use Rattle.toml_editor.proofs.written.HeaderNamed.{header_names_some}
 use Rattle.toml_editor.proofs.written.HeaderPut.{IsHeaderPut, ended}
 use Rattle.toml_editor.proofs.written.InsertSpaced.{first_formed}
 

@@ -23,7 +23,8 @@ use Rattle.toml_editor.proofs.written.Clear.{above_apart}
 use Rattle.toml_editor.proofs.written.CountedArrays.{followed_has}
 use Rattle.toml_editor.proofs.written.EmptyAlone.{each_both}
 use Rattle.toml_editor.proofs.written.HeaderCounted.{Enters, enters}
-use Rattle.toml_editor.proofs.written.HeaderNamed.{HasNames, IsNamedBetween, end_behind_name}
+use Rattle.toml_editor.proofs.written.FreshKeys.{HasNames}
+use Rattle.toml_editor.proofs.written.HeaderNamed.{IsNamedBetween, end_behind_name}
 use Rattle.toml_editor.proofs.written.Pairwise.{PairsAre, Goes, Has, any_of_has, all_of_pairs, from_has, has_of_any, has_weaker, members_self, pairs_append, pairs_back, pairs_between, pairs_front, pairs_of_all}
 use Rattle.toml_editor.proofs.written.Plain.{behind, plain_alike}
 use Rattle.toml_editor.proofs.written.Roles.{HasKind, IsLater, IsNotOver, RoleHas, all_later, kinds_are, none_over}

@@ -12,15 +12,16 @@ use Rattle.toml_names.specs.model.Addresses.{Address, child, element}
 use Rattle.toml_names.specs.reader.Names.{header_end, own_address}
 use Rattle.toml_layout.specs.declared.tree.Brackets.{Brackets}
 use Rattle.toml_layout.specs.declared.tree.Brackets.TheVariants.{One, Two}
-use Rattle.toml_working.specs.Heading.{header_expr, header_line, key_named}
+use Rattle.toml_working.specs.FreshKeys.{key_named}
+use Rattle.toml_working.specs.Heading.{header_expr, header_line}
 use Rattle.toml_working.specs.Headers.{names_of}
 use Rattle.toml_working.specs.Removing.{empty_line}
 use Rattle.toml_editor.specs.Blocks.{IsPut, named_plain, passed_from}
 use Rattle.toml_editor.proofs.written.EmptyAlone.{first_under}
+use Rattle.toml_editor.proofs.written.FreshKeys.{HasNames, key_again}
 use Rattle.toml_editor.proofs.written.HeaderCounted.{Enters, enters, same_behind}
 use Rattle.toml_editor.proofs.written.HeaderPut.{IsHeaderPut, IsPutBefore, ended}
 use Rattle.toml_editor.proofs.written.Plain.{behind, plain_is, plain_parts}
-use Rattle.toml_editor.proofs.written.SectionLeads.{key_again}
 
 -- ---- the key
 
@@ -29,10 +30,6 @@ pub names_of_element : (at : Address) (i : ℕ) → names_of (element at i) ≡ 
 names_of_element [] i = refl
 names_of_element (Name n ∷ at) i = ap (λ ns. n ∷ ns) (names_of_element at i)
 names_of_element (Index j ∷ at) i = names_of_element at i
-
--- there are names
-abbrev pub HasNames : Key → Type 0
-HasNames names = (n : List ℕ) × (ns : Key) × (names ≡ n ∷ ns)
 
 -- Where the key of an address's names leads to the address, it has names, and these are what the key spells.
 names_lead : (xs : List Named) (names : Key) (at : Address) → names_of at ≡ names → header_end xs [] (key_names (key_named names)) ≡ at

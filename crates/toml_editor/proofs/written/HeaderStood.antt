@@ -18,7 +18,8 @@ use Rattle.toml_layout.specs.TreeOutlines as trees
 use Rattle.toml_layout.specs.OpenOutlines.{closing_brackets, opening_brackets}
 use Rattle.toml_layout.specs.declared.tree.Brackets.{Brackets}
 use Rattle.toml_layout.specs.declared.tree.Brackets.TheVariants.{One, Two}
-use Rattle.toml_working.specs.Heading.{Shown, dotted_name, header_expr, header_line, key_named, shown, shown_from}
+use Rattle.toml_working.specs.FreshKeys.{dotted_name, key_named}
+use Rattle.toml_working.specs.Heading.{Shown, header_expr, header_line, shown, shown_from}
 use Rattle.toml_working.specs.Headers.{has_below, has_no_bytes, header_outline, inner_of, innermost, names_of, new_header, put_plainly}
 use Rattle.toml_working.specs.Headers as headers
 use Rattle.toml_working.specs.Inserting.{has_pair}
@@ -29,6 +30,7 @@ use Rattle.toml_editor.proofs.written.BelowPlace.{standing_behind}
 use Rattle.toml_editor.proofs.written.Counted.{counts_stay, own_counts}
 use Rattle.toml_editor.proofs.written.CountedAlike.{stand_same, standing_same}
 use Rattle.toml_editor.proofs.written.DocumentSections.{named_next}
+use Rattle.toml_editor.proofs.written.FreshKeys.{names_outlined}
 use Rattle.toml_editor.proofs.written.HeaderCounted.{back_apart, header_counted}
 use Rattle.toml_editor.proofs.written.HeaderPut.{IsApart}
 use Rattle.toml_editor.proofs.written.HeaderSplit.{IsHeadlessShown, IsOutlined, lines_of, stand_of}
@@ -116,10 +118,6 @@ counted_behind lines before line between back whole none a r rest i own at =
     ∙ own_counts b line.0 a r rest i owned at
 
 -- ---- the header line
-
-names_outlined : (ns : List (List ℕ)) → map dotted_outline (map dotted_name ns) ≡ map bare_part (map spelled ns)
-names_outlined [] = refl
-names_outlined (n ∷ ns) = ap (λ r. bare_part (spelled n) ∷ r) (names_outlined ns)
 
 outlined : (brackets : Brackets) (ws newline : List ℕ) (ns : List (List ℕ))
     → trees.line_of ws (trees.header_outline (opening_brackets brackets) (closing_brackets brackets)

@@ -20,10 +20,10 @@ use Rattle.toml_edits.specs.Faults.{IsFault}
 use Rattle.toml_layout.specs.declared.texts.Texts.{Texts}
 use Rattle.toml_working.specs.declared.working.Tree.{Tree}
 use Rattle.toml_editor.specs.Exact.{Follows, IsAt}
-use Rattle.toml_working.specs.Inserting.{insert_in}
+use Rattle.toml_working.specs.InsertingInTables.{insert_in}
 use Rattle.toml_working.specs.Putting.{InsertsLines, IsNameIn, manner}
 use Rattle.toml_working.specs.Sections.{TreePutsBelow}
-use Rattle.toml_editor.specs.SpelledEdits.{AreSteps, step_spelled}
+use Rattle.toml_working.specs.Spellings.{AreSteps, step_spelled}
 use Rattle.toml_working.specs.Standing.{Read, standing}
 use Rattle.toml_working.specs.Stands.{KeepsRest, Stands}
 use Rattle.toml_working.specs.Starting.{NoneIsGone}

@@ -11,7 +11,7 @@ use Rattle.toml_names.specs.mentions.Mentions.{Kind, Named, named, value_facts, 
 use Rattle.toml_names.specs.mentions.Clear.{IsClear}
 use Rattle.toml_names.proofs.Proved.{inside_is_below, not_named_is_clear, more_keep_rules, value_keeps_rules}
 use Rattle.toml_names.specs.mentions.Rules.{KeepsRules}
-use Rattle.toml_working.specs.Inserting.{insert_in}
+use Rattle.toml_working.specs.InsertingInTables.{insert_in}
 use Rattle.toml_edits.specs.Carry.{carry, inserting}
 use Rattle.toml_edits.specs.Edits.{insert}
 use Rattle.toml_edits.proofs.Proved.{parted_at_last}

@@ -8,7 +8,8 @@ use Rattle.toml_names.specs.mentions.Alike.{AreAlike}
 use Rattle.toml_names.specs.mentions.Keys.{spelled_name, name_or_empty}
 use Rattle.toml_names.specs.mentions.Mentions.{Named, named_by, named_from, root, pair_named, section, value_named, inside}
 use Rattle.toml_names.specs.model.Addresses.{Address, child}
-use Rattle.toml_working.specs.Inserting.{new_assign, new_expr, line_put, insert_in}
+use Rattle.toml_working.specs.Inserting.{new_assign, new_expr, line_put}
+use Rattle.toml_working.specs.InsertingInTables.{insert_in}
 use Rattle.toml_working.specs.Manners.{Manner}
 use Rattle.toml_layout.specs.Spacings.{Spacing, plain_spacing}
 use Rattle.toml_editor.specs.Blocks.{IsPut, value_block}

@@ -113,12 +113,12 @@ module _ (name : List ℕ) (v : Value) (manner : Manner) where
         }
 
   -- before all lines, or behind one
-  pub insert_place : (lines : List Line) → (insert_lines name v manner lines ≡ new_line plain_spacing name v manner.newline ∷ lines)
+  pub insert_place : (lines : List Line) → (insert_lines name v manner lines ≡ new_line plain_spacing (name ∷ []) v manner.newline ∷ lines)
       ⊎ IsBehind lines (insert_lines name v manner lines)
   insert_place lines = by (has_pair lines) refl (goes_below manner.layout lines) refl
     where
       by : (a : Bool) → has_pair lines ≡ a → (b : Bool) → goes_below manner.layout lines ≡ b
-          → (insert_lines name v manner lines ≡ new_line plain_spacing name v manner.newline ∷ lines) ⊎ IsBehind lines (insert_lines name v manner lines)
+          → (insert_lines name v manner lines ≡ new_line plain_spacing (name ∷ []) v manner.newline ∷ lines) ⊎ IsBehind lines (insert_lines name v manner lines)
       by true has b below = inr (subst (IsBehind lines) (sym (cond-true _ _ _ has)) (behind_one has_pair refl pair_heads pair_full lines has))
       by false has true below =
           inr (subst (IsBehind lines) (sym (cond-false _ _ _ has ∙ cond-true _ _ _ below))

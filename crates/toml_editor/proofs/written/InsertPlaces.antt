@@ -6,7 +6,8 @@ use Rattle.toml_names.specs.mentions.Mentions.{named, section}
 use Rattle.toml_names.specs.model.Addresses.{Address}
 use Rattle.toml_layout.specs.declared.layout.Layout.TheVariants as layouts
 use Rattle.toml_layout.specs.Spacings.{Spacing, laid_out, plain_spacing}
-use Rattle.toml_working.specs.Inserting.{insert_in, line_put, new_line, spacing_of}
+use Rattle.toml_working.specs.Inserting.{line_put, new_line, spacing_of}
+use Rattle.toml_working.specs.InsertingInTables.{insert_in}
 use Rattle.toml_working.specs.FirstKeys.{spacing_after}
 use Rattle.toml_working.specs.Manners.{Manner}
 use Rattle.toml_working.specs.Standing.{line_stands, standing}

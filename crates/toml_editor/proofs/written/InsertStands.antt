@@ -96,8 +96,8 @@ module _ (name : List ℕ) (v : Value) where
         → standing_from xs n (lines.line_behind name v manner l ls)
         ≡ line_behind name (value_outline v) manner (line_stands xs l) (line_outline l).newline ++ standing_from (xs ++ named_by xs n l.expr) (n + 1) ls
     line_stood xs n l ls are at_root =
-        put_stands [] name v manner (lines.spacing_behind manner l) xs n l ls are at_root
-        ∙ ap (λ s. line_put [] s name (value_outline v) manner (line_stands xs l) (line_outline l).newline ++ standing_from (xs ++ named_by xs n l.expr) (n + 1) ls)
+        put_stands [] name [] v manner (lines.spacing_behind manner l) xs n l ls are at_root
+        ∙ ap (λ s. line_put [] s (name ∷ []) (value_outline v) manner (line_stands xs l) (line_outline l).newline ++ standing_from (xs ++ named_by xs n l.expr) (n + 1) ls)
         (sym (spacing_same manner xs l))
 
     -- behind the last of some lines
@@ -135,10 +135,10 @@ module _ (name : List ℕ) (v : Value) where
         (sym (below_same manner.layout ls))
       where
         by : (b : Bool) → lines.goes_below manner.layout ls ≡ b
-            → standing (cond b (lines.insert_behind lines.has_comment name v manner ls) (lines.new_line plain_spacing name v manner.newline ∷ ls))
+            → standing (cond b (lines.insert_behind lines.has_comment name v manner ls) (lines.new_line plain_spacing (name ∷ []) v manner.newline ∷ ls))
             ≡ cond b (insert_behind has_comment name (value_outline v) manner (standing ls)) (new_standing plain_spacing name (value_outline v) manner.newline ∷ standing ls)
         by true is = last_put lines.has_comment has_comment comments_same refl comment_heads ls (root ∷ []) 0 refl (below_has manner.layout ls is) are
-        by false is = new_first [] name v manner plain_spacing (root ∷ []) 0 0 manner.newline ls refl
+        by false is = new_first [] name [] v manner plain_spacing (root ∷ []) 0 0 manner.newline ls refl
 
 pub insert_stands : InsertStands
 insert_stands name v manner ls are =

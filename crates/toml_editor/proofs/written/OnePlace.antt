@@ -1,5 +1,5 @@
 -- In the section of a table with a header a new line has one place.
-use Rattle.std.proofs.Common.{◌≡◌, ◌∙◌, inl, inr, List, ◌∷◌, ◌++◌, ap, sym, subst}
+use Rattle.std.proofs.Common.{◌≡◌, ◌∙◌, inl, inr, List, [], ◌∷◌, ◌++◌, ap, sym, subst}
 use Rattle.toml_working.specs.FirstKeys.{spacing_put}
 use Rattle.toml_working.specs.InsertStanding.{has_pair, line_put}
 use Rattle.toml_working.specs.Sections.{StandsBelow}
@@ -23,7 +23,7 @@ one_place_in_section q name v manner lines now new some keeps h g = elim (two_pl
 ]
   where
     made : List Standing → Standing → List Standing → List Standing
-    made front line back = front ++ (line_put q (spacing_put manner front line) name v manner line line.outline.newline ++ back)
+    made front line back = front ++ (line_put q (spacing_put manner front line) (name ∷ []) v manner line line.outline.newline ++ back)
 
     same : h.front ≡ g.front → h.line ≡ g.line → h.back ≡ g.back → made h.front h.line h.back ≡ made g.front g.line g.back
     same a b c = ap (λ f. made f h.line h.back) a ∙ ap (λ l. made g.front l h.back) b ∙ ap (made g.front g.line) c

@@ -20,7 +20,7 @@ use Rattle.toml_working.specs.Renaming.{rename_part, rename_rest, rename_key, re
 use Rattle.toml_editor.proofs.written.Clear.{below-cons, same_is}
 use Rattle.toml_editor.proofs.Each.{each_front, each_back}
 use Rattle.toml_editor.proofs.written.Alike.{adds, count_cons, each_from}
-use Rattle.toml_editor.proofs.written.InsertNamed.{spelled_again}
+use Rattle.toml_editor.proofs.written.FreshKeys.{spelled_again}
 use Rattle.toml_editor.proofs.written.Moved.{moved_root, moved_name, moved_index, moved_same}
 
 -- the names of a key with the parts that stand for p renamed

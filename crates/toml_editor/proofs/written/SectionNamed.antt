@@ -8,7 +8,8 @@ use Rattle.toml_names.specs.model.Addresses.{Address, child}
 use Rattle.toml_names.specs.reader.Names.{header_end}
 use Rattle.toml_names.proofs.Proved.{alike_name_the_same}
 use Rattle.toml_layout.specs.declared.tree.Brackets.TheVariants.{One}
-use Rattle.toml_working.specs.Heading.{header_expr, key_named}
+use Rattle.toml_working.specs.FreshKeys.{key_named}
+use Rattle.toml_working.specs.Heading.{header_expr}
 use Rattle.toml_working.specs.Headers.{names_of}
 use Rattle.toml_editor.specs.Blocks.{IsPut, named_plain, section_block}
 use Rattle.toml_editor.proofs.written.HeaderNamed.{follows, header_names_some, put_block, put_names}

@@ -31,7 +31,7 @@ use Rattle.toml_edits.specs.After.{IsAfter}
 use Rattle.toml_edits.specs.Faults.{IsFault}
 use Rattle.toml_text.specs.Forms.{IsNewline}
 use Rattle.toml_editor.specs.CarriedUnits.{PlainIsCarried}
-use Rattle.toml_working.specs.Inserting.{insert_in}
+use Rattle.toml_working.specs.InsertingInTables.{insert_in}
 use Rattle.toml_working.specs.Renaming.{rename_lines}
 use Rattle.toml_editor.specs.Steps.{IsGoodText}
 use Rattle.toml_editor.proofs.written.Fitting.{unnamed, last_step, all_fit}

@@ -18,7 +18,8 @@ use Rattle.toml_layout.specs.Outlines as outline
 use Rattle.toml_layout.specs.TreeOutlines.{line_outline}
 use Rattle.toml_layout.specs.declared.tree.Brackets.{Brackets}
 use Rattle.toml_layout.specs.declared.tree.Brackets.TheVariants.{One, Two}
-use Rattle.toml_working.specs.Heading.{dotted_name, header_expr, header_line, key_named}
+use Rattle.toml_working.specs.FreshKeys.{dotted_name, key_named}
+use Rattle.toml_working.specs.Heading.{header_expr, header_line}
 use Rattle.toml_working.specs.Headers.{has_no_bytes, names_of}
 use Rattle.toml_working.specs.Inserting.{has_pair}
 use Rattle.toml_working.specs.Removing.{empty_line}

@@ -13,7 +13,8 @@ use Rattle.toml_names.specs.mentions.Keys.{spelled_name, key_names}
 use Rattle.toml_names.specs.mentions.Mentions.{Named, named_by, named_from, root, section}
 use Rattle.toml_units.specs.Units.{TextUnit, line_units, inside, comment_units, units_from, units}
 use Rattle.toml_units.specs.declared.unit.UnitKind.TheVariants as kinds
-use Rattle.toml_working.specs.Inserting.{new_assign, new_expr, line_put, insert_in}
+use Rattle.toml_working.specs.Inserting.{new_assign, new_expr, line_put}
+use Rattle.toml_working.specs.InsertingInTables.{insert_in}
 use Rattle.toml_layout.specs.declared.layout.Layout.TheVariants as layouts
 use Rattle.toml_working.specs.Manners.{Manner}
 use Rattle.toml_layout.specs.Spacings.{Spacing, plain_spacing}
@@ -23,7 +24,7 @@ use Rattle.toml_editor.proofs.written.Alike.{alike_self, alike_pair}
 use Rattle.toml_editor.proofs.written.InsertSpaced.{line_formed}
 use Rattle.toml_editor.proofs.written.InsertPlace.{IsFull}
 use Rattle.toml_editor.proofs.written.InsertPlaces.{IsPlace, insert_in_place}
-use Rattle.toml_editor.proofs.written.InsertNamed.{spelled_again}
+use Rattle.toml_editor.proofs.written.FreshKeys.{spelled_again}
 use Rattle.toml_editor.proofs.written.LastLines.{LastIsFull, full_behind, full_line}
 use Rattle.toml_editor.proofs.written.WayBlock.{inside_lines, lines_append}
 use Rattle.toml_editor.proofs.written.WayFits.{newlines}

@@ -140,10 +140,10 @@ below_bared layouts.Follow ls = ap₂ (λ a b. a && b) (comments_bared ls) (end_
 module _ (name : List ℕ) (v : Value) (manner : Manner) where
   behind_bared : (l : Line) (ls : List Line) → map bare_line (line_behind name v manner l ls) ≡ line_behind name (bare_value v) manner (bare_line l) (map bare_line ls)
   behind_bared l [] =
-      ap (λ s. record { expr = bare_expr l.expr; newline = fresh manner.newline } ∷ new_line (laid_out manner.layout s) name (bare_value v) [] ∷ [])
+      ap (λ s. record { expr = bare_expr l.expr; newline = fresh manner.newline } ∷ new_line (laid_out manner.layout s) (name ∷ []) (bare_value v) [] ∷ [])
       (sym (spacing_bared l.expr))
   behind_bared l (m ∷ ms) =
-      ap (λ s. bare_line l ∷ new_line (laid_out manner.layout s) name (bare_value v) manner.newline ∷ bare_line m ∷ map bare_line ms) (sym (spacing_bared l.expr))
+      ap (λ s. bare_line l ∷ new_line (laid_out manner.layout s) (name ∷ []) (bare_value v) manner.newline ∷ bare_line m ∷ map bare_line ms) (sym (spacing_bared l.expr))
 
   module _ (more : List Line → Bool) (same : (ls : List Line) → more (map bare_line ls) ≡ more ls) where
     last_bared : (ls : List Line) → map bare_line (insert_behind more name v manner ls) ≡ insert_behind more name (bare_value v) manner (map bare_line ls)
@@ -161,12 +161,12 @@ module _ (name : List ℕ) (v : Value) (manner : Manner) where
   first_bared : (lines : List Line) → map bare_line (insert_first name v manner lines) ≡ insert_first name (bare_value v) manner (map bare_line lines)
   first_bared lines =
       by (goes_below manner.layout lines)
-      ∙ ap (λ b. cond b (insert_behind has_comment name (bare_value v) manner (map bare_line lines)) (new_line plain_spacing name (bare_value v) manner.newline ∷ map bare_line lines))
+      ∙ ap (λ b. cond b (insert_behind has_comment name (bare_value v) manner (map bare_line lines)) (new_line plain_spacing (name ∷ []) (bare_value v) manner.newline ∷ map bare_line lines))
       (sym (below_bared manner.layout lines))
     where
       by : (b : Bool)
-          → map bare_line (cond b (insert_behind has_comment name v manner lines) (new_line plain_spacing name v manner.newline ∷ lines))
-          ≡ cond b (insert_behind has_comment name (bare_value v) manner (map bare_line lines)) (new_line plain_spacing name (bare_value v) manner.newline ∷ map bare_line lines)
+          → map bare_line (cond b (insert_behind has_comment name v manner lines) (new_line plain_spacing (name ∷ []) v manner.newline ∷ lines))
+          ≡ cond b (insert_behind has_comment name (bare_value v) manner (map bare_line lines)) (new_line plain_spacing (name ∷ []) (bare_value v) manner.newline ∷ map bare_line lines)
       by true = last_bared has_comment comments_bared lines
       by false = refl
 

@@ -1,5 +1,5 @@
 use Rattle.std.proofs.Common.{◌≡◌, map, string_bytes, take}
-use Rattle.toml_editor.specs.SpelledEdits.{step_spelled}
+use Rattle.toml_working.specs.Spellings.{step_spelled}
 use Rattle.toml_editor.proofs.spelled.spellings.Given as goal
 
 abbrev pub invariant-loop-step : goal.invariant-loop-step
