@@ -63,6 +63,7 @@ pub mod InsertPlace
 pub mod InsertPlaces
 pub mod InsertSpaced
 pub mod InsertStands
+pub mod InsertedTables
 pub mod Inside
 pub mod KeptApart
 pub mod LastBare
@@ -108,6 +109,7 @@ pub mod StandingHas
 pub mod StandingOrder
 pub mod StandingThere
 pub mod Steps
+pub mod TablesAgain
 pub mod TablesStay
 pub mod Texts
 pub mod Together
