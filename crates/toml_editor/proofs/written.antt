@@ -14,6 +14,7 @@ pub mod CountedAlike
 pub mod CountedArrays
 pub mod Deep
 pub mod DocumentSections
+pub mod DottedKeys
 pub mod DottedPlace
 pub mod ElementCounted
 pub mod ElementHeaded
