@@ -16,6 +16,7 @@ pub mod Deep
 pub mod DocumentSections
 pub mod DottedKeys
 pub mod DottedPlace
+pub mod DottedStands
 pub mod ElementCounted
 pub mod ElementHeaded
 pub mod ElementKept

@@ -228,6 +228,7 @@ pub fn standing_inserted()
 /// rules, and the key of each such line has the names behind its section. After one in a table that longer headers alone imply they have a
 /// new header and the new line before the first of these.
 pub fn standing_inserted_in_tables()
+    ensures among { InsertStandsAmong }
     ensures keyed { DottedIsKeyed }
 {}
 

@@ -30,13 +30,13 @@ use Rattle.toml_editor.proofs.written.InsertPlace.{IsHeadless, pair_heads}
 -- ---- a section goes on
 
 -- a line without a header leaves it
-section_line : (xs : List Named) (n : ℕ) (e : Expr) → IsHeadless e → section (xs ++ named_by xs n e) ≡ section xs
+pub section_line : (xs : List Named) (n : ℕ) (e : Expr) → IsHeadless e → section (xs ++ named_by xs n e) ≡ section xs
 section_line xs n (BlankLine b) head = ap section (append-nil xs)
 section_line xs n (KeyValLine ws pair tail) head = section_pair xs n (section xs) pair.assign pair.value
 section_line xs n (TableLine ws header tail) head = absurd head
 section_line xs n (ArrayTableLine ws header tail) head = absurd head
 
-section_next : (before : List Line) (l : Line) → IsHeadless l.expr → section (named (before ++ l ∷ [])) ≡ section (named before)
+pub section_next : (before : List Line) (l : Line) → IsHeadless l.expr → section (named (before ++ l ∷ [])) ≡ section (named before)
 section_next before l head = ap section (named_next before l) ∙ section_line (named before) (length before) l.expr head
 
 -- so do some
@@ -45,7 +45,7 @@ section_stays [] before heads = ap (λ bs. section (named bs)) (append-nil befor
 section_stays (l ∷ ls) before heads =
     ap (λ bs. section (named bs)) (sym (append_assoc before (l ∷ []) ls)) ∙ section_stays ls (before ++ l ∷ []) heads.1 ∙ section_next before l heads.0
 
-keyed_head : (e : Expr) → IsKeyed e → IsHeadless e
+pub keyed_head : (e : Expr) → IsKeyed e → IsHeadless e
 keyed_head (BlankLine b) keyed = absurd keyed
 keyed_head (KeyValLine ws pair tail) keyed = tt
 keyed_head (TableLine ws header tail) keyed = absurd keyed
