@@ -14,7 +14,9 @@ pub mod CountedAlike
 pub mod CountedArrays
 pub mod Deep
 pub mod DocumentSections
+pub mod DottedKeys
 pub mod DottedPlace
+pub mod DottedStands
 pub mod ElementCounted
 pub mod ElementHeaded
 pub mod ElementKept

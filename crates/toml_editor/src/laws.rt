@@ -13,6 +13,7 @@ ghost use Rattle.toml_editor.specs.RenameLaws.{RenameNames, RenameGood, RenameDa
 ghost use Rattle.toml_editor.specs.RenamedHeaders.{RenameAlong, RenameAlongElement};
 ghost use Rattle.toml_editor.specs.RenamedUnits.{RenameUnits};
 ghost use Rattle.toml_editor.specs.StandingLaws.{HeaderIsAlone, InsertStands, InsertStandsBelow, OnePlaceInSection, PlacesDoNotStand, RemoveStands, RenameStands, RootComesFirst, RootPairIsLine};
+ghost use Rattle.toml_editor.specs.StandingLaws.{DottedIsKeyed, ImpliedIsBelow, InsertStandsAhead, InsertStandsAmong, OnePlaceAmong};
 ghost use Rattle.toml_editor.specs.StandingLaws.{RulesOrder, SetStands, StandingIsValue, ValueStands};
 ghost use Rattle.toml_working.specs.Renaming.{RenameIsOutlined};
 ghost use Rattle.toml_editor.specs.SetLaws.{SetNames, SetRules, SetShort, SetData, SetForms, SetOfProfile, SetWithin, SetElsewhere, SetKeepsLine};
@@ -221,6 +222,14 @@ pub fn standing_inserted()
     ensures below { InsertStandsBelow }
     ensures place { OnePlaceInSection }
     ensures alone { HeaderIsAlone }
+{}
+
+/// After one in a table that dotted keys make lines have the new line in the section of one that makes it. This is one place under the table
+/// rules, and the key of each such line has the names behind its section. After one in a table that longer headers alone imply they have a
+/// new header and the new line before the first of these.
+pub fn standing_inserted_in_tables()
+    ensures among { InsertStandsAmong }
+    ensures keyed { DottedIsKeyed }
 {}
 
 /// The value of a key at the root is that of a line, and the lines after a `remove` of the value of a line are what the `remove` makes of

@@ -18,7 +18,7 @@ use Rattle.toml_editor.proofs.written.InsertStands.{has_same}
 use Rattle.toml_editor.proofs.written.PutStands.{put_stands}
 use Rattle.toml_editor.proofs.written.DocumentSections.{named_next}
 
-back_formed : (front back : List Line) (l : Line) → AreLines (front ++ l ∷ back) → AreLines (l ∷ back)
+pub back_formed : (front back : List Line) (l : Line) → AreLines (front ++ l ∷ back) → AreLines (l ∷ back)
 back_formed [] back l are = are
 back_formed (m ∷ front) back l are = back_formed front back l (first_formed m front back l are).2
 

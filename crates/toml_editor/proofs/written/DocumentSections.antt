@@ -20,7 +20,7 @@ use Rattle.toml_editor.proofs.written.Alike.{section_pair}
 use Rattle.toml_editor.proofs.written.Clear.{same_is}
 use Rattle.toml_editor.proofs.written.OneSection.{AreSectioned, HeadersDiffer, StandsIn, section_behind, section_over}
 
-nat_self : (n : ℕ) → (n == n) ≡ true
+pub nat_self : (n : ℕ) → (n == n) ≡ true
 nat_self n = let e : (n == n) ≡ true = grind (arith, nat_tests) in e
 
 pub begins_longer : (q r : Address) → begins q (q ++ r) ≡ true
@@ -58,7 +58,7 @@ section_line before l = by l.expr refl
     by (TableLine ws h tail) is = header (subst IsHeaderLine (sym is) tt) _ (ap (own_address xs) is)
     by (ArrayTableLine ws h tail) is = header (subst IsHeaderLine (sym is) tt) _ (ap (own_address xs) is)
 
-line_in_section : (xs : List Named) (l : Line) → StandsIn (section xs) (line_stands xs l)
+pub line_in_section : (xs : List Named) (l : Line) → StandsIn (section xs) (line_stands xs l)
 line_in_section xs l (n, is) = by l.expr refl
   where
     by : (e : Expr) → l.expr ≡ e → stands_in (section xs) (line_base xs l.expr) (own_address xs l.expr) ≡ true
