@@ -1,4 +1,5 @@
 pub mod AddressTests
+pub mod AheadPlace
 pub mod Alike
 pub mod Around
 pub mod AroundLines
@@ -65,6 +66,7 @@ pub mod InsertPlace
 pub mod InsertPlaces
 pub mod InsertSpaced
 pub mod InsertStands
+pub mod InsertedNames
 pub mod InsertedTables
 pub mod Inside
 pub mod KeptApart
@@ -120,6 +122,7 @@ pub mod UnitsCarried
 pub mod UnitsGone
 pub mod UnitsHeaded
 pub mod UnitsIn
+pub mod UnitsInserted
 pub mod UnitsListed
 pub mod UnitsPut
 pub mod UnitsRenamed

@@ -26,7 +26,7 @@ use Rattle.toml_editor.specs.InsertLaws.{InsertNames, InsertRules, InsertShort, 
 use Rattle.toml_editor.proofs.written.BlockFacts.{each_put, has_old, has_block, has_new}
 use Rattle.toml_editor.proofs.written.Clear.{IsUnder}
 use Rattle.toml_editor.proofs.Each.{each_weaker}
-use Rattle.toml_editor.proofs.written.InsertedTables.{insert_named}
+use Rattle.toml_editor.proofs.written.InsertedNames.{insert_named}
 use Rattle.toml_editor.proofs.written.Pairwise.{each_of_all, Has, has_of_any, any_of_has, from_has, has_weaker}
 use Rattle.toml_editor.proofs.written.SetKept.{F, block, clear_under, block_short, in_block, of_block}
 use Rattle.toml_editor.proofs.written.TablesAgain.{AreNamedFirst}
