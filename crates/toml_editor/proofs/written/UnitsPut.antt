@@ -18,7 +18,6 @@ use Rattle.toml_working.specs.InsertingInTables.{insert_in}
 use Rattle.toml_layout.specs.declared.layout.Layout.TheVariants as layouts
 use Rattle.toml_working.specs.Manners.{Manner}
 use Rattle.toml_layout.specs.Spacings.{Spacing, plain_spacing}
-use Rattle.toml_working.specs.Premises.{HasSection}
 use Rattle.toml_editor.specs.UnitBlocks.{BeginWithLine, IsBlockPut, pair_line_units, pair_text, InsertUnits}
 use Rattle.toml_editor.proofs.written.Alike.{alike_self, alike_pair}
 use Rattle.toml_editor.proofs.written.InsertSpaced.{line_formed}
