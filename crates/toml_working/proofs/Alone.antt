@@ -216,10 +216,10 @@ never_dotted p units slots slot r at finds is lines headed =
     let found = subst (FindsLine sought.Dotted p units slots slot) is finds lines in
     true≢false (sym (sought_there sought.Dotted p (read_by units lines) slots at found) ∙ headed.no_dotted)
 
--- the place that is found is that of a header
-pub met_in : (o : Option TablePlace) (X : Type 0) → MatchOption o X IsHeaderPlace → IfSome o IsHeaderPlace
-met_in None X h = tt
-met_in (Some place) X h = h
+-- what is found is as it is to be
+pub met_in : {A : Type 0} (P : A → Type 0) (o : Option A) (X : Type 0) → MatchOption o X P → IfSome o P
+met_in P None X h = tt
+met_in P (Some x) X h = h
 
 -- a header stands in some slot
 pub header_somewhere : (p : Address) (read : Read) (slots : List Slot) (n : ℕ) → length slots ≤ n → AreHeaded p (slots_standing read slots)

@@ -22,6 +22,7 @@ mod Followed
 mod FollowedEnd
 mod HeaderAdded
 mod Alone
+mod TablesFound
 mod Turned
 mod Changed
 mod SetAway

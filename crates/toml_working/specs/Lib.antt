@@ -21,6 +21,7 @@ pub mod Turning
 pub mod Becoming
 pub mod Seeing
 pub mod Placing
+pub mod TablePlaces
 pub mod Putting
 pub mod Sections
 pub mod Spellings
