@@ -13,6 +13,7 @@ mod Commented
 mod Put
 mod PutRoot
 mod Sectioned
+mod LastInside
 mod HeaderSteps
 mod NoBytes
 mod NextFound

@@ -26,6 +26,7 @@ pub mod Putting
 pub mod Sections
 pub mod Spellings
 pub mod DottedTables
+pub mod TableEnds
 pub mod Headers
 pub mod NextHeaders
 pub mod PuttingHeaders

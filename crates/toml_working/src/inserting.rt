@@ -111,24 +111,6 @@ impl<'x> Tree<'x> {
         }
     }
 
-    /// The line behind which a new one goes of a table that a line's dotted key makes: the last one with a key and a value in
-    /// the section; by layout `Follow` the last one of the table there.
-    fn table_end(
-        &self,
-        before: Before<'_, 'x>,
-        line: Position,
-        section: &[Step],
-        table: &Address,
-    ) -> Position {
-        match self.texts.layout {
-            Layout::Plain => self.last_of_section(before, line, section).unwrap_or(line),
-            Layout::Follow => {
-                let from = self.start_below(before, line, section, table);
-                self.last_below(before, from, table)
-            }
-        }
-    }
-
     /// Puts a line in behind the last one with a key and a value before the first header, or as the first one of the root.
     fn insert_at_root(
         &mut self,
