@@ -195,6 +195,10 @@ pub any_or : (b : Bool) → (b || true) ≡ true
 any_or true = refl
 any_or false = refl
 
+pub any_there : {A : Type 0} (f : A → Bool) (front : List A) (x : A) (back : List A) → f x ≡ true → list_any f (front ++ x ∷ back) ≡ true
+any_there f [] x back so = ap (λ b. b || list_any f back) so
+any_there f (y ∷ front) x back so = ap (λ b. f y || b) (any_there f front x back so) ∙ any_or (f y)
+
 -- what is sought stands among the lines
 pub sought_there : (what : Sought) (p : Address) (read : Read) (slots : List Slot) (at : Position) → IsSoughtAt what p read slots at
     → list_any (is_sought_line what p) (slots_standing read slots) ≡ true
@@ -206,8 +210,7 @@ sought_there what p read slots at h = by (line_at read slots at) refl h
     by (Some s) there e =
         let here : is_sought_line what p s ≡ true = cc in
         let (front, back, all) = at_split read slots at s there in
-        ap (list_any (is_sought_line what p)) all ∙ list_any-append (is_sought_line what p) front (s ∷ back)
-        ∙ ap (λ b. list_any (is_sought_line what p) front || (b || list_any (is_sought_line what p) back)) here ∙ any_or (list_any (is_sought_line what p) front)
+        ap (list_any (is_sought_line what p)) all ∙ any_there (is_sought_line what p) front s back here
 
 -- a line whose dotted key makes the table is none of headed lines
 pub never_dotted : (p : Address) (units : List ReadUnit) (slots : List Slot) (slot : ℕ) (r : Option Position) (at : Position)

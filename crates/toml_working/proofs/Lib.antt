@@ -14,6 +14,7 @@ mod Put
 mod PutRoot
 mod Sectioned
 mod LastInside
+mod DottedPut
 mod HeaderSteps
 mod NoBytes
 mod NextFound

@@ -15,6 +15,7 @@ use Rattle.toml_units.specs.declared.unit.Unit.{Unit as ReadUnit}
 use Rattle.toml_layout.specs.Outlines.{ValueOutline}
 use Rattle.toml_layout.specs.declared.texts.Texts.{Texts}
 use Rattle.toml_working.specs.declared.lines.Slot.{Slot}
+use Rattle.toml_working.specs.declared.lines.Sought.{Sought}
 use Rattle.toml_working.specs.declared.lines.Sought.TheVariants as sought
 use Rattle.toml_working.specs.declared.working.Position.{Position}
 use Rattle.toml_working.specs.FirstKeys.{spacing_put}
@@ -41,14 +42,19 @@ end_of_guess q units slots start from at ends there lines =
 
 -- ---- the line is put in
 
+-- the line that is found at a place
+pub sought_here : (what : Sought) (q : Address) (read : Read) (slots : List Slot) (at : Position) → IsSoughtAt what q read slots at
+    → (s : Standing) × (line_at read slots at ≡ Some s) × (is_sought_line what q s ≡ true)
+sought_here what q read slots at found = by (line_at read slots at) refl found
+  where
+    by : (o : Option Standing) → line_at read slots at ≡ o → option_map (is_sought_line what q) o ≡ Some true
+        → (s : Standing) × (line_at read slots at ≡ Some s) × (is_sought_line what q s ≡ true)
+    by None there e = absurd (none-some true e)
+    by (Some s) there e = (s, there, same_Some (is_sought_line what q s) true e)
+
 pub header_here : (q : Address) (read : Read) (slots : List Slot) (at : Position) → IsSoughtAt sought.Header q read slots at
     → (h : Standing) × (line_at read slots at ≡ Some h) × (is_sought_line sought.Header q h ≡ true)
-header_here q read slots at found = by (line_at read slots at) refl found
-  where
-    by : (o : Option Standing) → line_at read slots at ≡ o → option_map (is_sought_line sought.Header q) o ≡ Some true
-        → (h : Standing) × (line_at read slots at ≡ Some h) × (is_sought_line sought.Header q h ≡ true)
-    by None there e = absurd (none-some true e)
-    by (Some s) there e = (s, there, same_Some (is_sought_line sought.Header q s) true e)
+header_here = sought_here sought.Header
 
 module _ (q own : Address) (base : ℕ) (steps : List (String Global)) (v : ValueOutline) (manner : Manner) (texts : Texts) (read : Read)
     (header next : Position) (old now : List Slot) (slot : next.slot ≡ header.slot) (index : header.index + 1 < 2 ^ 64 → next.index ≡ header.index + 1)
@@ -123,7 +129,7 @@ module _ (q own : Address) (base : ℕ) (steps : List (String Global)) (v : Valu
         },
       )
 
-front_is : (q r : Address) (x y : Step) → q ++ x ∷ [] ≡ r ++ y ∷ [] → q ≡ r
+pub front_is : (q r : Address) (x y : Step) → q ++ x ∷ [] ≡ r ++ y ∷ [] → q ≡ r
 front_is [] [] x y e = refl
 front_is [] (s ∷ []) x y e = cc
 front_is [] (s ∷ t ∷ r) x y e = cc
