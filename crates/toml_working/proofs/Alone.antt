@@ -115,7 +115,7 @@ at_split read slots at s h =
     (before ++ front, back ++ behind, split_within before front s back behind (slot_standing read slot) (slots_standing read slots) all own)
 
 -- so it is of a line that is sought for a table
-abbrev IsOfTable : Sought → Address → Type 0
+abbrev pub IsOfTable : Sought → Address → Type 0
 IsOfTable what p = (f : Found) → is_sought what p f ≡ true → (lies_below p f.address ≡ true) × (leads_to p f.base f.address ≡ false)
 
 sought_alone : (what : Sought) (p : Address) (read : Read) (slots : List Slot) (at : Position) → IsOfTable what p → option_map (is_sought_line what p) (line_at read slots at) ≡ Some true
@@ -135,12 +135,12 @@ heads_is p (Some n) own h = cc
 heads_is p None None h = cc
 heads_is p None (Some a) h = (subst (λ x. begins p x ≡ true) (sym ((same_address-decides a p).0 h)) (begins_self p), refl)
 
-dotted_is : (p : Address) (base : Option ℕ) (own : Option Address) → is_dotted p base own ≡ true → (lies_below p own ≡ true) × (leads_to p base own ≡ false)
+pub dotted_is : (p : Address) (base : Option ℕ) (own : Option Address) → is_dotted p base own ≡ true → (lies_below p own ≡ true) × (leads_to p base own ≡ false)
 dotted_is p None own h = cc
 dotted_is p (Some n) None h = cc
 dotted_is p (Some n) (Some a) h = above_begins p a (and_parts _ (is_above p a) h).1
 
-below_is : (p : Address) (base : Option ℕ) (own : Option Address) → heads_below p base own ≡ true → (lies_below p own ≡ true) × (leads_to p base own ≡ false)
+pub below_is : (p : Address) (base : Option ℕ) (own : Option Address) → heads_below p base own ≡ true → (lies_below p own ≡ true) × (leads_to p base own ≡ false)
 below_is p (Some n) own h = cc
 below_is p None own h = (h, refl)
 

@@ -1,9 +1,9 @@
 -- A line that is put in for a table which dotted keys make.
-use Rattle.std.proofs.Common.{◌≡◌, ◌∙◌, inl, inr, ℕ, ◌+◌, ◌≤◌, Bool, true, false, ◌==◌, ◌&&◌, List, [], ◌∷◌, ◌++◌, drop, length, map, take, Option, Some, None, refl, ap, ap₂, sym, subst, arith, append_assoc, true≢false}
+use Rattle.std.proofs.Common.{◌≡◌, ◌∙◌, inl, inr, ℕ, suc, ◌+◌, ◌≤◌, Bool, true, false, ◌==◌, ◌&&◌, List, [], ◌∷◌, ◌++◌, drop, length, map, take, Option, Some, None, refl, ap, ap₂, sym, subst, arith, append_assoc, true≢false}
 use Rattle.std.specs.List.{list_any}
 use Rattle.std.specs.declared.alloc.Global.{Global}
 use Rattle.std.specs.declared.string.String.{String}
-use Rattle.std.proofs.lemmas.Bool.{eq-eqb}
+use Rattle.std.proofs.lemmas.Bool.{eq-eqb, ltb-true}
 use Rattle.std.proofs.lemmas.List.{append_cancel_right, drop_at, length-append, take_at}
 use Rattle.std.specs.Prelude.{string_bytes}
 use Rattle.toml_scalar.specs.Spelling.{spelled}
@@ -23,6 +23,7 @@ use Rattle.toml_working.specs.declared.working.Position.{Position}
 use Rattle.toml_working.specs.declared.working.Tree.{Tree}
 use Rattle.toml_working.specs.DottedTables.{AreDotted, IsBehindEntry, IsKeyed, PutsDotted, StandsAmong, TreePutsDotted, is_inside, is_maker, makes_from, stands_inside}
 use Rattle.toml_working.specs.FirstKeys.{spacing_put}
+use Rattle.toml_working.specs.InTables.{TreePutsIn}
 use Rattle.toml_working.specs.InsertStanding.{line_put}
 use Rattle.toml_working.specs.Placing.{IsNoHeader, IsPair, lines_before, lines_from}
 use Rattle.toml_working.specs.Putting.{IsKeyIn, TreePutsBehind, manner}
@@ -36,6 +37,7 @@ use Rattle.toml_working.specs.TableEnds.{EndsAmong}
 use Rattle.toml_working.proofs.Alone.{above_begins, and_parts, any_there, at_split, begins_through}
 use Rattle.toml_working.proofs.AtPlace.{slot_of}
 use Rattle.toml_working.proofs.Each.{each_back}
+use Rattle.toml_working.proofs.RemovedOne.{any_split}
 use Rattle.toml_working.proofs.Placed.{behind_line, from_line, split_at}
 use Rattle.toml_working.proofs.Sectioned.{front_is, sought_here}
 
@@ -180,3 +182,27 @@ module _ (q own : Address) (steps : List (String Global)) (v : ValueOutline) (re
               ∙ ap (λ r. front ++ (line_put section (spacing_put (manner old) front last.line) (key ++ name ∷ []) v (manner old) last.line last.line.outline.newline ++ r)) (sym back);
         },
       )
+
+-- ---- a name at the root
+
+root_of_one : (q at : Address) (name : List ℕ) → length at ≡ 1 → at ≡ child q name → q ≡ []
+root_of_one [] at name one is = refl
+root_of_one (s ∷ q) at name one is = absurd (let whole = ap length is ∙ ap suc (length-append q (Name name ∷ [])) in omega (arith, whole, one))
+
+-- no dotted key makes the root
+never_root : (ss : List Standing) → list_any (is_sought_line sought.Dotted []) ss ≡ true → ⊥
+never_root ss there = let (front, s, back, split, makes) = any_split (is_sought_line sought.Dotted []) ss there in by s.base s.address makes
+  where
+    by : (base : Option ℕ) (own : Option Address) → is_dotted [] base own ≡ true → ⊥
+    by None own h = cc
+    by (Some n) None h = cc
+    by (Some n) (Some a) h = absurd (omega (arith, ltb-true n 0 (and_parts _ (is_above [] a) h).0))
+
+-- it stands in no table that is not the root
+pub root_puts : (q at : Address) (steps : List (String Global)) (v : ValueOutline) (read : Read) (old now : Tree) → length at ≡ 1 → TreePutsIn q at steps v read old now
+root_puts q at steps v read old now one = record {
+  header = λ not_root name named. absurd (not_root (root_of_one q at name one named.at_is));
+  dotted = λ name at_is spellings ss stands ordered dotted.
+      absurd (never_root ss (subst (λ r. list_any (is_sought_line sought.Dotted r) ss ≡ true) (root_of_one q at name one at_is) dotted.dotted));
+  implied = λ not_root name at_is. absurd (not_root (root_of_one q at name one at_is));
+}

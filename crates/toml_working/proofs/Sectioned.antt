@@ -24,10 +24,10 @@ use Rattle.toml_working.specs.Manners.{Manner}
 use Rattle.toml_working.specs.Placing.{lines_before, lines_from}
 use Rattle.toml_working.specs.Putting.{PutsBehind}
 use Rattle.toml_working.specs.Sections.{EndsSection, FindsSectionEnd, InsertsBelow, IsBehindHeader, IsEndFrom, IsOfSectionAt, is_of_section}
-use Rattle.toml_working.specs.Seeing.{AreHeaded, IsSoughtAt, found, is_sought_line, line_at}
+use Rattle.toml_working.specs.Seeing.{AreHeaded, Found, IsSoughtAt, found, is_sought, is_sought_line, line_at}
 use Rattle.toml_working.specs.Standing.{Standing, Read, AreOrdered, StandAlone, holds, slots_standing}
 use Rattle.toml_working.specs.Stands.{Stands}
-use Rattle.toml_working.proofs.Alone.{below_pairs, heads_is, sought_there}
+use Rattle.toml_working.proofs.Alone.{IsOfTable, below_pairs, sought_there}
 use Rattle.toml_working.proofs.Pairwise.{pairs_of_all}
 use Rattle.toml_working.proofs.RemovedOne.{any_split}
 use Rattle.toml_working.proofs.AtPlace.{slot_of}
@@ -159,15 +159,17 @@ puts_below q above last own base steps v manner texts read header next behind ol
     by (Some end) found at base_is = puts_last q own base steps v manner texts read header next old now slot index base_is finds end found
         (subst (λ b. PutsBehind own base steps v manner texts read b old now) at puts)
 
--- ---- no line holds a table that has a header
+-- ---- no line holds a table that a line makes, or that stands above a header
 
-headed_holds_none : (q : Address) (ss : List Standing) → StandAlone ss → AreHeaded q ss → list_any (holds q) ss ≡ false
-headed_holds_none q ss alone headed =
-    let (front, h, back, split, heads_it) = any_split (is_sought_line sought.Header q) ss headed.header in
-    let facts = heads_is q h.base h.address heads_it in
-    ap (list_any (holds q)) split ∙ below_pairs q front h back (pairs_of_all _ _ (subst StandAlone split alone)) facts.0 facts.1
+-- where such a line stands, none holds the table
+made_holds_none : (what : Sought) (q : Address) (ss : List Standing) → IsOfTable what q → StandAlone ss → list_any (is_sought_line what q) ss ≡ true
+    → list_any (holds q) ss ≡ false
+made_holds_none what q ss is alone there =
+    let (front, s, back, split, here) = any_split (is_sought_line what q) ss there in
+    let facts = is (found s) here in
+    ap (list_any (holds q)) split ∙ below_pairs q front s back (pairs_of_all _ _ (subst StandAlone split alone)) facts.0 facts.1
 
-pub never_held : (q : Address) (text : List ℕ) (read : Read) (slots : List Slot) (place : Position) → IsSoughtAt sought.Holder q read slots place
-    → (ss : List Standing) → Stands text read slots ss → AreOrdered ss → AreHeaded q ss → ⊥
-never_held q text read slots place found ss stands ordered headed =
-    true≢false (sym (sought_there sought.Holder q read slots place found) ∙ ap (list_any (holds q)) stands.are ∙ headed_holds_none q ss ordered.alone headed)
+pub never_held : (what : Sought) (q : Address) (text : List ℕ) (read : Read) (slots : List Slot) (place : Position) → IsOfTable what q → IsSoughtAt sought.Holder q read slots place
+    → (ss : List Standing) → Stands text read slots ss → AreOrdered ss → list_any (is_sought_line what q) ss ≡ true → ⊥
+never_held what q text read slots place is held ss stands ordered there =
+    true≢false (sym (sought_there sought.Holder q read slots place held) ∙ ap (list_any (holds q)) stands.are ∙ made_holds_none what q ss is ordered.alone there)
