@@ -31,8 +31,8 @@ use Rattle.toml_working.specs.RemovingIn.{base_of, steps_or_zero}
 use Rattle.toml_working.specs.Sections.{is_of_section, stands_in}
 use Rattle.toml_working.specs.Seeing.{IsSoughtAt, LacksSought, is_dotted, is_sought_line, line_at}
 use Rattle.toml_working.specs.Spellings.{AreSteps, step_spelled}
-use Rattle.toml_working.specs.Standing.{Standing, Read, StandAlone, holds, slots_standing}
-use Rattle.toml_working.specs.Stands.{Stands}
+use Rattle.toml_working.specs.Standing.{Standing, Read, slots_standing}
+use Rattle.toml_working.specs.Stands.{SlotKept, Stands}
 use Rattle.toml_working.specs.TableEnds.{EndsAmong}
 use Rattle.toml_working.proofs.Alone.{above_begins, and_parts, any_there, at_split, begins_through}
 use Rattle.toml_working.proofs.AtPlace.{slot_of}
@@ -134,7 +134,48 @@ behind_maker section read slots from at m line front back there of_section is he
         ))
 
 module _ (q own : Address) (steps : List (String Global)) (v : ValueOutline) (read : Read) (from at : Position) (old now : Tree) where
-  -- behind the last one
+  -- what then stands on the lines
+  abbrev Put : List ℕ → List Standing → Type 0
+  Put name ss = (ts : List Standing) × Stands (text_of old.texts.source) read now.slots.items ts × PutsDotted q name v (manner old) ss ts
+
+  -- it stands behind the last one, and has the key of the table's address and the name
+  put_among : (section : Address) (key : Key) (name : List ℕ) (m : Standing) (base : ℕ) → base ≡ length section → q ≡ below section key
+      → IsKeyIn section (key ++ name ∷ []) own steps → EachIs (SlotKept (text_of old.texts.source) read) old.slots.items
+      → line_at read old.slots.items from ≡ Some m → is_sought_line sought.Dotted q m ≡ true → m.base ≡ Some (length section)
+      → EndsAmong old.texts.layout section q read old.slots.items from at → TreePutsBehind own base steps v read at old now
+      → Put name (slots_standing read old.slots.items)
+  put_among section key name m base at_base q_is named kept there makes m_base end puts =
+      let slots = old.slots.items in
+      let last = end.last in
+      let (before, behind, split) = at_split read slots from m there in
+      let put = puts section at_base (key ++ name ∷ []) named last.next kept last.line last.there in
+      let front = lines_before read slots at.slot at.index in (
+        slots_standing read now.slots.items,
+        record { kept = put.0; are = refl },
+        record {
+          section = section;
+          key = key ++ name ∷ [];
+          same = ap (λ a. child a name) q_is ∙ child_below section key name;
+          made = ap (list_any (is_maker section q)) split ∙ any_there (is_maker section q) before m behind (maker_is q m makes section key m_base q_is);
+          front = front;
+          line = last.line;
+          back = last.back;
+          was = split_at read slots at.slot at.index ∙ ap (λ r. front ++ r) last.from;
+          among = elim end.there [
+            | inl here ↦ behind_maker section read slots from at m last.line last.front last.back there (maker_there q m makes section key m_base q_is)
+                (sym (ap₂ (lines_from read slots) here.0 here.1) ∙ last.is) last.heads last.pair last.there last.from
+            | inr so ↦ inl so
+          ];
+          inside = last.inside;
+          last = last.none;
+          is =
+              put.1
+              ∙ ap (λ r. front ++ (line_put section (spacing_put (manner old) front last.line) (key ++ name ∷ []) v (manner old) last.line last.line.outline.newline ++ r))
+              (sym (behind_line read slots at last.line last.back last.there last.from));
+        },
+      )
+
+  -- so it is put in, where the line that is found makes the table
   pub puts_dotted : (above part : Address) (last : Step) (base n : ℕ) → own ≡ above ++ last ∷ [] → base ≡ base_of (line_at read old.slots.items from)
       → (base ≤ length above → n ≡ base) → part ≡ take n above
       → (LacksSought sought.Header q (slots_standing read old.slots.items) → list_any (is_sought_line sought.Dotted q) (slots_standing read old.slots.items) ≡ true
@@ -146,42 +187,15 @@ module _ (q own : Address) (steps : List (String Global)) (v : ValueOutline) (re
       let found = finds (ap (list_any (is_sought_line sought.Header q)) stands.are ∙ dotted.no_header) (ap (list_any (is_sought_line sought.Dotted q)) stands.are ∙ dotted.dotted) in
       let (m, there, makes) = sought_here sought.Dotted q read slots from found in
       let (before, behind, split) = at_split read slots from m there in
-      let among : ss ≡ before ++ m ∷ behind = sym stands.are ∙ split in
-      let (section, key, m_base, q_is) = (each_back (IsKeyed q) before (m ∷ behind) (subst (EachIs (IsKeyed q)) among dotted.keyed)).0 makes in
+      let keyed = subst (EachIs (IsKeyed q)) (sym stands.are ∙ split) dotted.keyed in
+      let (section, key, m_base, q_is) = (each_back (IsKeyed q) before (m ∷ behind) keyed).0 makes in
       let above_is : above ≡ below section key = front_is above q last (Name name) (sym own_is ∙ at_is) ∙ q_is in
       let at_base : base ≡ length section = base_is ∙ ap base_of there ∙ ap steps_or_zero m_base in
-      let enough : base ≤ length above =
-      let whole = ap length above_is ∙ length-append section (map Name key) in omega (arith, whole, at_base) in
+      let enough : base ≤ length above = let whole = ap length above_is ∙ length-append section (map Name key) in omega (arith, whole, at_base) in
       let same : part ≡ section = part_is ∙ ap₂ take (low enough ∙ at_base) above_is ∙ take_at section (map Name key) (length section) refl in
       let end = subst (λ a. EndsAmong old.texts.layout a q read slots from at) same (ends m there (maker_inside q m makes)) in
-      let last = end.last in
-      let of_section = maker_there q m makes section key m_base q_is in
-      let (kept, are) = puts section at_base (key ++ name ∷ []) (key_in section q own key name steps q_is at_is spellings) last.next stands.kept last.line last.there in
-      let back : last.back ≡ lines_from read slots at.slot (at.index + 1) = behind_line read slots at last.line last.back last.there last.from in
-      let front = lines_before read slots at.slot at.index in (
-        slots_standing read now.slots.items,
-        record { kept = kept; are = refl },
-        record {
-          section = section;
-          key = key ++ name ∷ [];
-          same = ap (λ a. child a name) q_is ∙ child_below section key name;
-          made = ap (list_any (is_maker section q)) among ∙ any_there (is_maker section q) before m behind (maker_is q m makes section key m_base q_is);
-          front = front;
-          line = last.line;
-          back = last.back;
-          was = sym stands.are ∙ split_at read slots at.slot at.index ∙ ap (λ r. front ++ r) last.from;
-          among = elim end.there [
-            | inl here ↦ behind_maker section read slots from at m last.line last.front last.back there of_section
-                (sym (ap₂ (lines_from read slots) here.0 here.1) ∙ last.is) last.heads last.pair last.there last.from
-            | inr so ↦ inl so
-          ];
-          inside = last.inside;
-          last = last.none;
-          is =
-              are
-              ∙ ap (λ r. front ++ (line_put section (spacing_put (manner old) front last.line) (key ++ name ∷ []) v (manner old) last.line last.line.outline.newline ++ r)) (sym back);
-        },
-      )
+      subst (Put name) stands.are
+      (put_among section key name m base at_base q_is (key_in section q own key name steps q_is at_is spellings) stands.kept there makes m_base end puts)
 
 -- ---- a name at the root
 
