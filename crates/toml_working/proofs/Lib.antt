@@ -13,6 +13,8 @@ mod Commented
 mod Put
 mod PutRoot
 mod Sectioned
+mod LastInside
+mod DottedPut
 mod HeaderSteps
 mod NoBytes
 mod NextFound
@@ -22,6 +24,7 @@ mod Followed
 mod FollowedEnd
 mod HeaderAdded
 mod Alone
+mod TablesFound
 mod Turned
 mod Changed
 mod SetAway

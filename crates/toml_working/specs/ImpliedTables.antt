@@ -67,8 +67,8 @@ PutsAhead q at steps v read next old now = (name : List ℕ) → at ≡ child q 
     → LacksSought sought.HeaderBelow q (lines_before read old.slots.items next.slot next.index)
     → Stands (text_of old.texts.source) read now.slots.items (put_ahead q name v (manner old) [] ss)
 
--- so it is put in on lines of a tree, as the table rules have them
+-- so it is put in on lines of a tree, as the table rules have them; the root needs no header
 abbrev pub TreePutsAhead : Address → Address → List (String Global) → ValueOutline → Read → Tree → Tree → Type 0
-TreePutsAhead q at steps v read old now = (name : List ℕ) → at ≡ child q name → AreSteps at steps → (ss : List Standing)
+TreePutsAhead q at steps v read old now = ¬ (q ≡ []) → (name : List ℕ) → at ≡ child q name → AreSteps at steps → (ss : List Standing)
     → Stands (text_of old.texts.source) read old.slots.items ss → AreOrdered ss → AreImplied q ss
     → Stands (text_of old.texts.source) read now.slots.items (put_ahead q name v (manner old) [] ss)

@@ -5,8 +5,10 @@ ghost use Rattle.toml_layout.specs.OpenOutlines.{leaf_text, value};
 ghost use Rattle.toml_working.specs.Putting.{EndsOne, EndsSlot, EndsSlots, IsElsewhere, IsPairLine};
 ghost use Rattle.toml_working.specs.Putting.{PutsSlot, PutsSlots, TreeEndsBefore, TreeInserts, TreeInsertsFirst, TreePutsBehind};
 ghost use Rattle.toml_working.specs.HeldLines.{PutsInValue};
-ghost use Rattle.toml_working.specs.ImpliedTables.{PutsAhead};
-ghost use Rattle.toml_working.specs.Sections.{TreeInsertsBelow, TreePutsBelow};
+ghost use Rattle.toml_working.specs.DottedTables.{TreePutsDotted};
+ghost use Rattle.toml_working.specs.ImpliedTables.{PutsAhead, TreePutsAhead};
+ghost use Rattle.toml_working.specs.InTables.{TreePutsIn};
+ghost use Rattle.toml_working.specs.Sections.{TreeInsertsBelow};
 ghost use Rattle.toml_working.specs.Starting.{read_of};
 ghost use Rattle.toml_working.specs.Stands.{KeepsRest};
 
@@ -42,7 +44,7 @@ impl<'x> Tree<'x> {
         ensures root { OnOk result (TreeInserts at.now spelled.now (value new.entry) (read_of before.entry) self.old self.new) }
         ensures value { let read = read_of before.entry in
             IfOk result (PutsInValue parent.now at.now spelled.now new.entry read self.old self.new) }
-        ensures below { OnOk result (TreePutsBelow parent.now at.now spelled.now (value new.entry) (read_of before.entry) self.old self.new) }
+        ensures below { OnOk result (TreePutsIn parent.now at.now spelled.now (value new.entry) (read_of before.entry) self.old self.new) }
     {
         let insertion = Insertion { at, spelled, new };
         if is_at_root(at) {
@@ -64,7 +66,7 @@ impl<'x> Tree<'x> {
         ensures value { let it = insertion.entry in
             IfOk result (PutsInValue parent.now it.at.now it.spelled.now it.new (read_of before.entry) self.old self.new) }
         ensures below { let it = insertion.entry in
-            OnOk result (TreePutsBelow parent.now it.at.now it.spelled.now (value it.new) (read_of before.entry) self.old self.new) }
+            OnOk result (TreePutsIn parent.now it.at.now it.spelled.now (value it.new) (read_of before.entry) self.old self.new) }
     {
         match self.value_line(before, named, parent) {
             Some(place) => {
@@ -86,6 +88,10 @@ impl<'x> Tree<'x> {
         ensures rest { OnOk result (KeepsRest self.old self.new) }
         ensures below { let it = insertion.entry in
             OnOk result (TreeInsertsBelow parent.now it.at.now it.spelled.now (value it.new) (read_of before.entry) self.old self.new) }
+        ensures dotted { let it = insertion.entry in
+            OnOk result (TreePutsDotted parent.now it.at.now it.spelled.now (value it.new) (read_of before.entry) self.old self.new) }
+        ensures implied { let it = insertion.entry in
+            OnOk result (TreePutsAhead parent.now it.at.now it.spelled.now (value it.new) (read_of before.entry) self.old self.new) }
     {
         let Some((last, above)) = insertion.at.steps().split_last() else {
             return Ok(false);
@@ -108,24 +114,6 @@ impl<'x> Tree<'x> {
                 self.insert_before(before, header, parent, insertion)
             }
             None => Ok(false),
-        }
-    }
-
-    /// The line behind which a new one goes of a table that a line's dotted key makes: the last one with a key and a value in
-    /// the section; by layout `Follow` the last one of the table there.
-    fn table_end(
-        &self,
-        before: Before<'_, 'x>,
-        line: Position,
-        section: &[Step],
-        table: &Address,
-    ) -> Position {
-        match self.texts.layout {
-            Layout::Plain => self.last_of_section(before, line, section).unwrap_or(line),
-            Layout::Follow => {
-                let from = self.start_below(before, line, section, table);
-                self.last_below(before, from, table)
-            }
         }
     }
 

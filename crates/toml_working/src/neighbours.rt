@@ -75,18 +75,6 @@ impl<'x> Tree<'x> {
         None
     }
 
-    /// The place of the first line from a place on, if there is one.
-    pub(crate) fn line_from(&self, at: Position) -> Option<Position> {
-        let mut index = at.index;
-        for slot in at.slot..self.slots.len() {
-            if index < self.slots.get(slot)?.count() {
-                return Some(Position { slot, index });
-            }
-            index = 0;
-        }
-        None
-    }
-
     /// What stands on the line at a place, if there is one.
     pub(crate) fn sort(&self, before: Before<'_, 'x>, at: Position) -> Option<Sort> {
         let line = self.seen(before, at)?;
@@ -134,43 +122,6 @@ impl<'x> Tree<'x> {
             }
         }
         first
-    }
-
-    /// The last line with a key and a value strictly below the address, from a place on and before the next header line; where
-    /// there is none the place.
-    pub(crate) fn last_below(
-        &self,
-        before: Before<'_, 'x>,
-        from: Position,
-        address: &Address,
-    ) -> Position {
-        let mut last = from;
-        let mut at = self.line_from(from);
-        for _ in 0..usize::MAX {
-            let Some(place) = at else {
-                return last;
-            };
-            match self.sort(before, place) {
-                Some(Sort::Header) | None => return last,
-                Some(Sort::Pair) if self.is_strictly_below(before, place, address) => last = place,
-                Some(_) => {}
-            }
-            at = self.line_from(place.next());
-        }
-        last
-    }
-
-    /// Whether the line at a place stands strictly below the address.
-    pub(crate) fn is_strictly_below(
-        &self,
-        before: Before<'_, 'x>,
-        at: Position,
-        address: &Address,
-    ) -> bool {
-        match self.seen(before, at) {
-            Some(line) => line.is_below(address) && line.steps() > address.steps().len(),
-            None => false,
-        }
     }
 
     /// How a line begins that is put in behind another, in the layout of the tree.
