@@ -21,6 +21,7 @@ mod WentUp
 mod Followed
 mod FollowedEnd
 mod HeaderAdded
+mod PutAhead
 mod Alone
 mod Turned
 mod Changed

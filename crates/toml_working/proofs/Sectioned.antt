@@ -15,6 +15,7 @@ use Rattle.toml_units.specs.declared.unit.Unit.{Unit as ReadUnit}
 use Rattle.toml_layout.specs.Outlines.{ValueOutline}
 use Rattle.toml_layout.specs.declared.texts.Texts.{Texts}
 use Rattle.toml_working.specs.declared.lines.Slot.{Slot}
+use Rattle.toml_working.specs.declared.lines.Sought.{Sought}
 use Rattle.toml_working.specs.declared.lines.Sought.TheVariants as sought
 use Rattle.toml_working.specs.declared.working.Position.{Position}
 use Rattle.toml_working.specs.FirstKeys.{spacing_put}
@@ -41,14 +42,15 @@ end_of_guess q units slots start from at ends there lines =
 
 -- ---- the line is put in
 
-pub header_here : (q : Address) (read : Read) (slots : List Slot) (at : Position) → IsSoughtAt sought.Header q read slots at
-    → (h : Standing) × (line_at read slots at ≡ Some h) × (is_sought_line sought.Header q h ≡ true)
-header_here q read slots at found = by (line_at read slots at) refl found
+-- the line that is found
+pub sought_here : (what : Sought) (q : Address) (read : Read) (slots : List Slot) (at : Position) → IsSoughtAt what q read slots at
+    → (s : Standing) × (line_at read slots at ≡ Some s) × (is_sought_line what q s ≡ true)
+sought_here what q read slots at found = by (line_at read slots at) refl found
   where
-    by : (o : Option Standing) → line_at read slots at ≡ o → option_map (is_sought_line sought.Header q) o ≡ Some true
-        → (h : Standing) × (line_at read slots at ≡ Some h) × (is_sought_line sought.Header q h ≡ true)
+    by : (o : Option Standing) → line_at read slots at ≡ o → option_map (is_sought_line what q) o ≡ Some true
+        → (s : Standing) × (line_at read slots at ≡ Some s) × (is_sought_line what q s ≡ true)
     by None there e = absurd (none-some true e)
-    by (Some s) there e = (s, there, same_Some (is_sought_line sought.Header q s) true e)
+    by (Some s) there e = (s, there, same_Some (is_sought_line what q s) true e)
 
 module _ (q own : Address) (base : ℕ) (steps : List (String Global)) (v : ValueOutline) (manner : Manner) (texts : Texts) (read : Read)
     (header next : Position) (old now : List Slot) (slot : next.slot ≡ header.slot) (index : header.index + 1 < 2 ^ 64 → next.index ≡ header.index + 1)
@@ -66,7 +68,7 @@ module _ (q own : Address) (base : ℕ) (steps : List (String Global)) (v : Valu
       → InsertsBelow q own steps v manner (text_of texts.source) read old now
   puts_first none puts name named ss stands headed =
       let (found, low) = finds (subst (AreHeaded q) (sym stands.are) headed) in
-      let (h, there, heads) = header_here q read old header found in
+      let (h, there, heads) = sought_here sought.Header q read old header found in
       let (kept, are) = puts q at_base (name ∷ []) named low stands.kept h there in
       let behind : lines_from read old next.slot next.index ≡ lines_from read old header.slot (header.index + 1) = ap₂ (lines_from read old) slot (index low) in (
         slots_standing read now,
@@ -87,7 +89,7 @@ module _ (q own : Address) (base : ℕ) (steps : List (String Global)) (v : Valu
       → InsertsBelow q own steps v manner (text_of texts.source) read old now
   puts_last at ends puts name named ss stands headed =
       let (found, low) = finds (subst (AreHeaded q) (sym stands.are) headed) in
-      let (h, there, heads) = header_here q read old header found in
+      let (h, there, heads) = sought_here sought.Header q read old header found in
       let last = ends.last in
       let (kept, are) = puts q at_base (name ∷ []) named last.next stands.kept last.line last.there in
       let split : slots_standing read old ≡ lines_before read old at.slot at.index ++ last.line ∷ last.back =

@@ -43,14 +43,6 @@ impl<'x> Kept {
 }
 
 impl<'x> Line<'x> {
-    /// The whitespace with which it begins.
-    fn ws(&self, texts: Texts<'x>) -> Leaf<'x> {
-        match &self.body {
-            Body::Kept(kept) => kept.parted(texts).0,
-            Body::Open(open) => open.ws,
-        }
-    }
-
     /// Whether a comment stands on it, and neither a key nor a header.
     fn is_comment(&self, texts: Texts<'x>) -> bool {
         match &self.body {
@@ -61,20 +53,6 @@ impl<'x> Line<'x> {
 }
 
 impl<'x> Tree<'x> {
-    /// The place of the line before a place, if there is one.
-    pub(crate) fn above(&self, at: Position) -> Option<Position> {
-        if let Some(index) = at.index.checked_sub(1) {
-            let slot = at.slot;
-            return Some(Position { slot, index });
-        }
-        for slot in (0..at.slot).rev() {
-            if let Some(index) = self.slots.get(slot)?.count().checked_sub(1) {
-                return Some(Position { slot, index });
-            }
-        }
-        None
-    }
-
     /// The place of the first line from a place on, if there is one.
     pub(crate) fn line_from(&self, at: Position) -> Option<Position> {
         let mut index = at.index;
@@ -108,32 +86,6 @@ impl<'x> Tree<'x> {
             },
             None => false,
         }
-    }
-
-    /// The whitespace with which the line at a place begins.
-    pub(crate) fn ws_at(&self, at: Position) -> Leaf<'x> {
-        match self.slots.get(at.slot) {
-            Some(Slot::Kept(kept)) => kept.parted(self.texts).0,
-            Some(Slot::Lines(lines)) => match lines.get(at.index) {
-                Some(line) => line.ws(self.texts),
-                None => Leaf::EMPTY,
-            },
-            None => Leaf::EMPTY,
-        }
-    }
-
-    /// The place of the first of the comment lines that stand directly above a line, or its own.
-    pub(crate) fn above_comments(&self, before: Before<'_, 'x>, at: Position) -> Position {
-        let mut first = at;
-        for _ in 0..usize::MAX {
-            match self.above(first) {
-                Some(line) if matches!(self.sort(before, line), Some(Sort::Comment)) => {
-                    first = line;
-                }
-                _ => return first,
-            }
-        }
-        first
     }
 
     /// The last line with a key and a value strictly below the address, from a place on and before the next header line; where
