@@ -200,7 +200,7 @@ module _ (q : Address) where
         ∙ ap (λ r. front ++ r) (put_here front rest here.0)
         ∙ ap (λ w. front ++ (new_header q One w manner.newline ∷ new_standing_in q (spacing_below manner.layout w front) (name ∷ []) v manner.newline ∷ rest)) here.1
         ∙ ap (λ x. front ++ (new_header q One (ws_like manner.layout s) manner.newline ∷ new_standing_in q x (name ∷ []) v manner.newline ∷ rest))
-            (sym (spacing_past manner.layout (ws_like manner.layout s) front between leads))
+        (sym (spacing_past manner.layout (ws_like manner.layout s) front between leads))
 
 -- ---- the spellings of the steps
 
@@ -335,7 +335,7 @@ puts_ahead q own base steps v read next at ws first equals l laid old now at_bas
     let begun = body_begun (leaf_text first) (around equals) l.body laid.body (new_outline plain_spacing (name ∷ []) v style) outlined begins in
     let made : line_standing read laid ≡ new_standing_in q (spacing_below layout (leaf_text ws) (front ++ goes.between)) (name ∷ []) v style =
     stands_new read q (name ∷ []) (begun_as (leaf_text first) (around equals) (new_outline plain_spacing (name ∷ []) v style)) laid
-        (address ∙ address_is) (base_same ∙ base_is) begun
+    (address ∙ address_is) (base_same ∙ base_is) begun
     ∙ ap (λ o. record { address = Some (child q name); base = Some (length q); outline = o }) (begun_new (leaf_text first) (around equals) (name ∷ []) v style)
     ∙ ap (λ x. new_standing_in q x (name ∷ []) v style) (lays s there ∙ ap (spacing_below layout (leaf_text ws)) goes.is) in
     let spells = above_spelled q (Name name) (map string_bytes steps) (steps_are ∙ ap (map step_spelled) own_is) in

@@ -72,23 +72,24 @@ pub record AreImplied (q : Address) (ss : List Standing) : Type 0 where
 
 -- ---- the place
 
--- no line stands there, or the last one is no comment line
+-- the last of these lines, if there is one, is no comment line
 abbrev pub EndsUncommented : List Standing → Type 0
 EndsUncommented front = (front ≡ []) ⊎ ((above : List Standing) × (t : Standing) × (front ≡ above ++ t ∷ []) × (is_no_comment t ≡ true))
 
--- what may stand between the place, behind these lines, and the header ahead of which it is
+-- What stands between the lines above a place and the header ahead of which the place is, by the layout: nothing, or the comment lines directly
+-- above the header.
 abbrev pub LeadsAhead : Layout → List Standing → List Standing → Type 0
 LeadsAhead layouts.Plain front between = between ≡ []
 LeadsAhead layouts.Follow front between = (list_any is_no_comment between ≡ false) × EndsUncommented front
 
--- the place is ahead of the header at the other
+-- so the place is ahead of the header at the other; it is that of a line of its slot, or right behind them
 pub record GoesAhead (layout : Layout) (read : Read) (slots : List Slot) (next at : Position) : Type 0 where
   pub inside : IsInSlot read slots at
   pub between : List Standing
   pub is : lines_before read slots next.slot next.index ≡ lines_before read slots at.slot at.index ++ between
   pub leads : LeadsAhead layout (lines_before read slots at.slot at.index) between
 
--- by layout `Follow` before the comment lines directly above that
+-- by layout `Follow` where there is a line
 abbrev pub IsAboveComments : Read → List Slot → Position → Position → Type 0
 IsAboveComments read slots next at = (s : Standing) → line_at read slots next ≡ Some s → GoesAhead layouts.Follow read slots next at
 
@@ -97,12 +98,12 @@ abbrev pub ws_like : Layout → Standing → List ℕ
 ws_like layouts.Plain s = []
 ws_like layouts.Follow s = s.outline.ws
 
--- the place, and the whitespace with which a header begins there
+-- where there is a line, the place is ahead of it, and with this whitespace a header begins there
 abbrev pub IsAhead : Layout → Read → List Slot → Position → Position → Leaf → Type 0
 IsAhead layout read slots next at ws = (s : Standing) → line_at read slots next ≡ Some s
     → GoesAhead layout read slots next at × (leaf_text ws ≡ ws_like layout s)
 
--- how the first line below that header begins
+-- so the first line below that header begins, which begins with `own`
 abbrev pub LaysOutBelow : Layout → List ℕ → Read → List Slot → Position → Leaf → Option Equals → Type 0
 LaysOutBelow layout own read slots next ws equals = (s : Standing) → line_at read slots next ≡ Some s
     → spaced_by (leaf_text ws) (around equals) ≡ spacing_below layout own (lines_before read slots next.slot next.index)

@@ -57,11 +57,7 @@ impl<'x> Tree<'x> {
     }
 
     /// The place of the first of the comment lines that stand directly above a line, or its own.
-    fn above_comments(
-        &self,
-        before: Before<'_, 'x>,
-        at: Position,
-    ) -> Result<Position, AllocError>
+    fn above_comments(&self, before: Before<'_, 'x>, at: Position) -> Result<Position, AllocError>
         ensures { IfOk result (IsAboveComments (read_of before.entry) self.now.slots.items at) }
     {
         match self.landmark(before, at, Landmark::NoComment)? {
