@@ -21,7 +21,7 @@ use Rattle.toml_working.proofs.AtPlace.{slot_of}
 use Rattle.toml_working.proofs.Each.{each_append}
 use Rattle.toml_working.proofs.LookedUp.{before_first}
 use Rattle.toml_working.proofs.Placed.{from_line, one_seen, split_at}
-use Rattle.toml_working.proofs.Sectioned.{sought_here}
+use Rattle.toml_working.proofs.Sectioned.{header_here}
 
 -- ---- lists of lines
 
@@ -313,7 +313,7 @@ module _ (e : Address) (read : Read) (slots : List Slot) where
   pub first_at : (at : Position) → IsSoughtAt sought.Header e read slots at → StandInTurn e (slots_standing read slots)
       → has_below e (lines_before read slots at.slot 0) ≡ false
   first_at at found together =
-      let (h, there, heads) = sought_here sought.Header e read slots at found in
+      let (h, there, heads) = header_here e read slots at found in
       let (slot, slot_is, own) = slot_of read slots at h there in
       let split = split_at read slots at.slot at.index
       ∙ ap (λ r. lines_before read slots at.slot at.index ++ r) (from_line read slots at.slot at.index slot h slot_is own) in

@@ -42,7 +42,7 @@ end_of_guess q units slots start from at ends there lines =
 
 -- ---- the line is put in
 
--- the line that is found
+-- the line that is found at a place
 pub sought_here : (what : Sought) (q : Address) (read : Read) (slots : List Slot) (at : Position) → IsSoughtAt what q read slots at
     → (s : Standing) × (line_at read slots at ≡ Some s) × (is_sought_line what q s ≡ true)
 sought_here what q read slots at found = by (line_at read slots at) refl found
@@ -51,6 +51,10 @@ sought_here what q read slots at found = by (line_at read slots at) refl found
         → (s : Standing) × (line_at read slots at ≡ Some s) × (is_sought_line what q s ≡ true)
     by None there e = absurd (none-some true e)
     by (Some s) there e = (s, there, same_Some (is_sought_line what q s) true e)
+
+pub header_here : (q : Address) (read : Read) (slots : List Slot) (at : Position) → IsSoughtAt sought.Header q read slots at
+    → (h : Standing) × (line_at read slots at ≡ Some h) × (is_sought_line sought.Header q h ≡ true)
+header_here = sought_here sought.Header
 
 module _ (q own : Address) (base : ℕ) (steps : List (String Global)) (v : ValueOutline) (manner : Manner) (texts : Texts) (read : Read)
     (header next : Position) (old now : List Slot) (slot : next.slot ≡ header.slot) (index : header.index + 1 < 2 ^ 64 → next.index ≡ header.index + 1)
@@ -68,7 +72,7 @@ module _ (q own : Address) (base : ℕ) (steps : List (String Global)) (v : Valu
       → InsertsBelow q own steps v manner (text_of texts.source) read old now
   puts_first none puts name named ss stands headed =
       let (found, low) = finds (subst (AreHeaded q) (sym stands.are) headed) in
-      let (h, there, heads) = sought_here sought.Header q read old header found in
+      let (h, there, heads) = header_here q read old header found in
       let (kept, are) = puts q at_base (name ∷ []) named low stands.kept h there in
       let behind : lines_from read old next.slot next.index ≡ lines_from read old header.slot (header.index + 1) = ap₂ (lines_from read old) slot (index low) in (
         slots_standing read now,
@@ -89,7 +93,7 @@ module _ (q own : Address) (base : ℕ) (steps : List (String Global)) (v : Valu
       → InsertsBelow q own steps v manner (text_of texts.source) read old now
   puts_last at ends puts name named ss stands headed =
       let (found, low) = finds (subst (AreHeaded q) (sym stands.are) headed) in
-      let (h, there, heads) = sought_here sought.Header q read old header found in
+      let (h, there, heads) = header_here q read old header found in
       let last = ends.last in
       let (kept, are) = puts q at_base (name ∷ []) named last.next stands.kept last.line last.there in
       let split : slots_standing read old ≡ lines_before read old at.slot at.index ++ last.line ∷ last.back =
