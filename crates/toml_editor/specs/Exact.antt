@@ -34,7 +34,7 @@ use Rattle.toml_working.specs.Headers.{innermost}
 use Rattle.toml_working.specs.HeldLines.{HoldsLines, TakesFromValue}
 use Rattle.toml_editor.specs.PlainTexts.{IsPlainOrHeld, IsPlainOn, IsRefusedIn}
 use Rattle.toml_working.specs.Putting.{TreeInserts, manner}
-use Rattle.toml_working.specs.Sections.{TreePutsBelow}
+use Rattle.toml_working.specs.InTables.{TreePutsIn}
 use Rattle.toml_working.specs.RemovingIn.{RemovesLines, TakesElement}
 use Rattle.toml_editor.specs.SpelledEdits.{AreSteps}
 use Rattle.toml_working.specs.Standing.{AreOrdered, Read, Standing, holds, standing}
@@ -102,7 +102,7 @@ WritesInside profile read p text steps old new done = IsText text → (v : Value
 -- of one of a name into a table that has a header
 abbrev pub WritesBelow : Profile → Read → Address → List ℕ → List (String Global) → Tree → Tree → Type 0
 WritesBelow profile read p text steps old new = IsText text → (v : Value) → IsValueIn profile v text → (q : Address) (last : Step) → p ≡ q ++ last ∷ []
-    → TreePutsBelow q p steps (value_outline v) read old new
+    → TreePutsIn q p steps (value_outline v) read old new
 
 -- the header line of what is to stand at the address, the steps of which are spelled so: whether it is put in
 abbrev pub WritesHeader : Brackets → Read → Address → List (String Global) → Tree → Tree → Bool → Type 0

@@ -23,6 +23,7 @@ mod WentUp
 mod Followed
 mod FollowedEnd
 mod HeaderAdded
+mod PutAhead
 mod Alone
 mod TablesFound
 mod Turned

@@ -3,20 +3,23 @@ ghost use Rattle.std.specs.Prelude.{◌≡◌, ◌++◌, ◌<◌, ◌∷◌, IfO
 ghost use Rattle.toml_layout.specs.KnownLines.{lines_known};
 ghost use Rattle.toml_layout.specs.OpenOutlines.{leaf_text, value};
 ghost use Rattle.toml_working.specs.Putting.{EndsOne, EndsSlot, EndsSlots, IsElsewhere, IsPairLine};
-ghost use Rattle.toml_working.specs.Putting.{PutsSlot, PutsSlots, TreeEndsBefore, TreeInserts, TreeInsertsFirst, TreePutsBehind};
+ghost use Rattle.toml_working.specs.Putting.{PutsSlot, PutsSlots, PutsThere, TreeEndsBefore, TreeInserts, TreeInsertsFirst, TreePutsBehind};
 ghost use Rattle.toml_working.specs.HeldLines.{PutsInValue};
+<<<<<<< HEAD
 ghost use Rattle.toml_working.specs.DottedTables.{TreePutsDotted};
 ghost use Rattle.toml_working.specs.ImpliedTables.{PutsAhead, TreePutsAhead};
 ghost use Rattle.toml_working.specs.InTables.{TreePutsIn};
 ghost use Rattle.toml_working.specs.Sections.{TreeInsertsBelow};
+=======
+ghost use Rattle.toml_working.specs.Sections.{TreeInsertsBelow, TreePutsBelow};
+>>>>>>> 976e5b9b8f76380922fe9c907083ad61e3b48001
 ghost use Rattle.toml_working.specs.Starting.{read_of};
 ghost use Rattle.toml_working.specs.Stands.{KeepsRest};
 
 use crate::lines::{Line, Slot};
-use crate::sections::NewHeader;
 use crate::working::{Before, Position, TablePlace, Tree};
 use std::alloc::{AllocError, Global};
-use toml_layout::{Brackets, Expr, Inside, KeyVal, KnownLine, Layout, Leaf, Texts, Value};
+use toml_layout::{Expr, Inside, KeyVal, KnownLine, Layout, Leaf, Texts, Value};
 use toml_names::{Address, Place, Step};
 use toml_units::Unit;
 
@@ -24,7 +27,7 @@ use toml_units::Unit;
 #[derive(Drop)]
 pub(crate) struct Insertion<'a, 'x> {
     at: &'a Address,
-    spelled: &'x [String],
+    pub(crate) spelled: &'x [String],
     new: Value<'x>,
 }
 
@@ -191,52 +194,8 @@ impl<'x> Tree<'x> {
         Ok(Leaf::EMPTY)
     }
 
-    /// Puts a header line for the parent, and a line behind it, in before another.
-    fn insert_before(
-        &mut self,
-        before: Before<'_, 'x>,
-        next: Position,
-        parent: &Address,
-        insertion: Insertion<'_, 'x>,
-    ) -> Result<bool, AllocError>
-        ensures rest { OnOk result (KeepsRest self.old self.new) }
-        ensures put { let it = insertion.entry in
-            OnOk result (PutsAhead parent.now it.at.now it.spelled.now (value it.new) (read_of before.entry) next self.old self.new) }
-    {
-        let header = NewHeader {
-            at: parent,
-            brackets: Brackets::One,
-            spelled: insertion.spelled,
-        };
-        let line = self.pair_line(parent.steps().len(), insertion, self.style)?;
-        if let Layout::Follow = self.texts.layout {
-            return self.put_both(before, next, header, line);
-        }
-        Ok(self.put(before, next, line)? && self.put_header(before, next, header, Leaf::EMPTY)?)
-    }
-
-    /// Puts both lines in by layout `Follow`: before the comment lines above the other line, and as that one begins.
-    fn put_both(
-        &mut self,
-        before: Before<'_, 'x>,
-        next: Position,
-        header: NewHeader<'_, 'x>,
-        line: Line<'x>,
-    ) -> Result<bool, AllocError>
-        ensures { OnOk result (KeepsRest self.old self.new) }
-    {
-        let at = self.above_comments(before, next);
-        let ws = self.ws_at(next);
-        let (own, equals) = self.beginning_below(before, at, ws)?;
-        let line = line.beginning_as(own, equals);
-        let head = header
-            .line(self.alloc(), self.style)?
-            .beginning_as(ws, None);
-        Ok(self.put(before, at, line)? && self.put(before, at, head)?)
-    }
-
     /// A line with the key of the steps below its table, whose address has `base` steps.
-    fn pair_line(
+    pub(crate) fn pair_line(
         &self,
         base: usize,
         insertion: Insertion<'_, 'x>,
@@ -266,6 +225,9 @@ impl<'x> Tree<'x> {
         ensures put { let old = self.old.slots.items in
             let now = self.new.slots.items in
             OnOk result (PutsSlots (read_of before.entry) at line.entry old now) }
+        ensures there { let old = self.old.slots.items in
+            let now = self.new.slots.items in
+            OnOk result (PutsThere (read_of before.entry) at line.entry old now) }
         ensures done { IfOk result (λ done. at.slot < length self.old.slots.items → done ≡ true) }
     {
         self.guesses.put(self.texts.alloc, at.slot, &line)?;
@@ -290,6 +252,7 @@ fn put_at<'t>(
     line: Line<'t>,
 ) -> Result<bool, AllocError>
     ensures put { OnOk result (PutsSlots (read_of before.entry) at line.entry slots.old.items slots.new.items) }
+    ensures there { OnOk result (PutsThere (read_of before.entry) at line.entry slots.old.items slots.new.items) }
     ensures done { IfOk result (λ done. at.slot < length slots.old.items → done ≡ true) }
 {
     match slots.get_mut(at.slot) {
