@@ -5,14 +5,10 @@ ghost use Rattle.toml_layout.specs.OpenOutlines.{leaf_text, value};
 ghost use Rattle.toml_working.specs.Putting.{EndsOne, EndsSlot, EndsSlots, IsElsewhere, IsPairLine};
 ghost use Rattle.toml_working.specs.Putting.{PutsSlot, PutsSlots, PutsThere, TreeEndsBefore, TreeInserts, TreeInsertsFirst, TreePutsBehind};
 ghost use Rattle.toml_working.specs.HeldLines.{PutsInValue};
-<<<<<<< HEAD
 ghost use Rattle.toml_working.specs.DottedTables.{TreePutsDotted};
-ghost use Rattle.toml_working.specs.ImpliedTables.{PutsAhead, TreePutsAhead};
+ghost use Rattle.toml_working.specs.ImpliedTables.{TreePutsAhead};
 ghost use Rattle.toml_working.specs.InTables.{TreePutsIn};
 ghost use Rattle.toml_working.specs.Sections.{TreeInsertsBelow};
-=======
-ghost use Rattle.toml_working.specs.Sections.{TreeInsertsBelow, TreePutsBelow};
->>>>>>> 976e5b9b8f76380922fe9c907083ad61e3b48001
 ghost use Rattle.toml_working.specs.Starting.{read_of};
 ghost use Rattle.toml_working.specs.Stands.{KeepsRest};
 
