@@ -56,6 +56,9 @@ pub mod HeaderStood
 pub mod HeaderThere
 pub mod HeadersAlone
 pub mod HeadersRenamed
+pub mod ImpliedPlace
+pub mod ImpliedSplit
+pub mod ImpliedWay
 pub mod InTurn
 pub mod InsertFollow
 pub mod InsertFormed
