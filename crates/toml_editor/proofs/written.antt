@@ -56,6 +56,7 @@ pub mod HeaderStood
 pub mod HeaderThere
 pub mod HeadersAlone
 pub mod HeadersRenamed
+pub mod ImpliedHeaders
 pub mod ImpliedPlace
 pub mod ImpliedSplit
 pub mod ImpliedWay
@@ -77,6 +78,7 @@ pub mod Made
 pub mod Members
 pub mod Moved
 pub mod Nested
+pub mod OneMaker
 pub mod OnePlace
 pub mod OneSection
 pub mod OnlyElement
