@@ -57,6 +57,10 @@ pub mod HeaderStood
 pub mod HeaderThere
 pub mod HeadersAlone
 pub mod HeadersRenamed
+pub mod ImpliedHeaders
+pub mod ImpliedPlace
+pub mod ImpliedSplit
+pub mod ImpliedWay
 pub mod InTurn
 pub mod InsertFollow
 pub mod InsertFormed
@@ -77,6 +81,7 @@ pub mod Made
 pub mod Members
 pub mod Moved
 pub mod Nested
+pub mod OneMaker
 pub mod OnePlace
 pub mod OneSection
 pub mod OnlyElement

@@ -1,5 +1,5 @@
 -- Where the new line of an `insert` in a table that dotted keys make stands.
-use Rattle.std.proofs.Common.{◌≡◌, ◌∙◌, ℕ, ◌+◌, Bool, true, false, ◌||◌, Some, List, [], ◌∷◌, ◌++◌, length, length-append, refl, sym, ap, ap₂, subst, subst₂, true≢false, append_assoc, append-nil}
+use Rattle.std.proofs.Common.{◌≡◌, ◌∙◌, ℕ, ◌+◌, Bool, true, false, ◌||◌, List, [], ◌∷◌, ◌++◌, length, length-append, refl, sym, ap, ap₂, subst, subst₂, true≢false, append_assoc, append-nil}
 use Rattle.std.specs.List.{list_any}
 use Rattle.std.proofs.lemmas.Bool.{cond-true, cond-false}
 use Rattle.toml_tree.specs.Spells.{EachIs}
@@ -13,13 +13,13 @@ use Rattle.toml_layout.specs.declared.layout.Layout.{Layout}
 use Rattle.toml_layout.specs.declared.layout.Layout.TheVariants as layouts
 use Rattle.toml_layout.specs.Spacings.{Spacing}
 use Rattle.toml_working.specs.declared.lines.Sought.TheVariants as sought
-use Rattle.toml_working.specs.DottedTables.{StandsInside, is_inside, stands_inside}
+use Rattle.toml_working.specs.DottedTables.{StandsInside, stands_inside}
 use Rattle.toml_working.specs.Inserting.{has_pair, line_put, put_last, spacing_behind}
 use Rattle.toml_working.specs.InsertingInTables.{has_inside, has_more, insert_among, insert_in, is_maker_of, key_behind}
 use Rattle.toml_working.specs.Manners.{Manner}
 use Rattle.toml_working.specs.Premises.{HasDotted}
 use Rattle.toml_working.specs.Seeing.{is_sought_line}
-use Rattle.toml_working.specs.Standing.{line_stands, standing, standing_from}
+use Rattle.toml_working.specs.Standing.{line_stands, standing_from}
 use Rattle.toml_editor.proofs.written.Alike.{section_pair}
 use Rattle.toml_editor.proofs.written.BelowPlace.{IsKeyed}
 use Rattle.toml_editor.proofs.written.DocumentSections.{named_next}

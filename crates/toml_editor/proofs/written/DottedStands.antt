@@ -1,7 +1,6 @@
 -- The lines after an `insert` in a table that dotted keys make, by what finds them.
-use Rattle.std.proofs.Common.{◌≡◌, ◌∙◌, inl, inr, ℕ, ◌+◌, ◌==◌, Bool, true, false, ◌||◌, ◌&&◌, not, cond, Some, List, [], ◌∷◌, ◌++◌, length, refl, sym, ap, ap₂, subst, append_assoc, append-nil}
+use Rattle.std.proofs.Common.{◌≡◌, ◌∙◌, inl, ℕ, ◌+◌, Bool, true, false, ◌||◌, ◌&&◌, not, cond, Some, List, [], ◌∷◌, ◌++◌, length, refl, sym, ap, ap₂, subst, append_assoc}
 use Rattle.std.specs.List.{list_any}
-use Rattle.std.proofs.lemmas.List.Folds.{list_any-append}
 use Rattle.toml_tree.specs.Spells.{AreLines}
 use Rattle.toml_tree.specs.Tree.{Value, Expr, BlankLine, KeyValLine, TableLine, ArrayTableLine, Line}
 use Rattle.toml_names.specs.mentions.Keys.{Key, key_names}
@@ -12,7 +11,7 @@ use Rattle.toml_units.specs.Units.{line_base}
 use Rattle.toml_layout.specs.declared.layout.Layout.{Layout}
 use Rattle.toml_layout.specs.declared.layout.Layout.TheVariants as layouts
 use Rattle.toml_layout.specs.TreeOutlines.{line_outline, value_outline}
-use Rattle.toml_working.specs.DottedTables.{PutsDotted, has_inside, has_more, is_inside, is_maker, makes_from, stands_inside}
+use Rattle.toml_working.specs.DottedTables.{PutsDotted, has_inside, has_more, is_maker, makes_from, stands_inside}
 use Rattle.toml_working.specs.FirstKeys.{spacing_put}
 use Rattle.toml_working.specs.Inserting as lines
 use Rattle.toml_working.specs.InsertingInTables as tree

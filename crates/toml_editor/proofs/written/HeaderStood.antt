@@ -92,7 +92,7 @@ headless xs (TableLine ws header tail) is = true≢false is
 headless xs (ArrayTableLine ws header tail) is = true≢false is
 
 -- so the first of some lines have none
-front_headless : (zs back : List Shown) (xs : List Named) (n : ℕ) → standing_from xs n (lines_of (zs ++ back)) ≡ stand_of (zs ++ back) → EachIs IsHeadlessShown zs
+pub front_headless : (zs back : List Shown) (xs : List Named) (n : ℕ) → standing_from xs n (lines_of (zs ++ back)) ≡ stand_of (zs ++ back) → EachIs IsHeadlessShown zs
     → EachIs (λ (l : Line). IsHeadless l.expr) (lines_of zs)
 front_headless [] back xs n is none = tt
 front_headless (z ∷ zs) back xs n is none =

@@ -102,12 +102,17 @@ formed_front [] back l forms = tt
 formed_front (m ∷ front) back l forms =
     let (own, ends, rest) = first_formed m front back l forms in (own, formed_front front back l rest)
 
+-- that of the first line in a section
+pub front_spaced : (front back : List Line) (l : Line) (ws : List ℕ) → AreLines (front ++ l ∷ back) → IsWs ws
+    → IsSpacing (spacing_like ws (like_before ws (standing front)))
+front_spaced front back l ws forms is = like_spaced ws _ is (alike_spaced ws (standing front) _ None (each_spaced front (root ∷ []) 0 (formed_front front back l forms)) tt)
+
 pub put_spaced : (manner : Manner) (front back : List Line) (l : Line) → AreLines (front ++ l ∷ back)
     → IsSpacing (spacing_put manner (standing front) (line_stands (named front) l))
 put_spaced manner front back l forms = laid_spaced manner.layout _ (by l.expr refl (line_formed front back l forms))
   where
     alike : (ws : List ℕ) → IsWs ws → IsSpacing (spacing_like ws (like_before ws (standing front)))
-    alike ws is = like_spaced ws _ is (alike_spaced ws (standing front) _ None (each_spaced front (root ∷ []) 0 (formed_front front back l forms)) tt)
+    alike ws is = front_spaced front back l ws forms is
 
     Goal : Line → Type 0
     Goal m = IsSpacing (spacing_after (standing front) (line_stands (named front) m).base (line_stands (named front) m).address (line_stands (named front) m).outline)

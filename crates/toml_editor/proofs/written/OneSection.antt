@@ -38,7 +38,7 @@ AreSectioned q (s ∷ ss) = StandsIn q s × AreSectioned (section_behind q s.bas
 abbrev pub Heads : Address → Standing → Type 0
 Heads q s = is_sought_line sought.Header q s ≡ true
 
-over_append : (front back : List Standing) (q : Address) → section_over q (front ++ back) ≡ section_over (section_over q front) back
+pub over_append : (front back : List Standing) (q : Address) → section_over q (front ++ back) ≡ section_over (section_over q front) back
 over_append [] back q = refl
 over_append (s ∷ front) back q = over_append front back (section_behind q s.base s.address)
 
@@ -51,7 +51,7 @@ heads_section q r (Some n) own h = cc
 heads_section q r None None h = cc
 heads_section q r None (Some a) h = same_is a q h
 
-pair_section : (r : Address) (base : Option ℕ) (own : Option Address) (n : ℕ) → base ≡ Some n → section_behind r base own ≡ r
+pub pair_section : (r : Address) (base : Option ℕ) (own : Option Address) (n : ℕ) → base ≡ Some n → section_behind r base own ≡ r
 pair_section r base own n is = ap (λ b. section_behind r b own) is
 
 bare_section : (r : Address) (base : Option ℕ) (own : Option Address) → is_header base own ≡ false → section_behind r base own ≡ r
@@ -71,7 +71,7 @@ pub record IsAmong (P : Standing → Type 0) (ss : List Standing) : Type 0 where
   pub is : ss ≡ front ++ line ∷ back
   pub holds : P line
 
-among_behind : (P : Standing → Type 0) (front ss : List Standing) → IsAmong P ss → IsAmong P (front ++ ss)
+pub among_behind : (P : Standing → Type 0) (front ss : List Standing) → IsAmong P ss → IsAmong P (front ++ ss)
 among_behind P front ss h = record {
   front = front ++ h.front;
   line = h.line;
@@ -80,7 +80,7 @@ among_behind P front ss h = record {
   holds = h.holds;
 }
 
-among_before : (P : Standing → Type 0) (ss back : List Standing) → IsAmong P ss → IsAmong P (ss ++ back)
+pub among_before : (P : Standing → Type 0) (ss back : List Standing) → IsAmong P ss → IsAmong P (ss ++ back)
 among_before P ss back h = record {
   front = h.front;
   line = h.line;
@@ -119,7 +119,7 @@ heads_within (s ∷ ss) r q is = by s.base refl s.address refl (heads_within ss 
     })
 
 -- a header stands before a line with a key and a value that is not the last one of a section
-header_within : (mid : List Standing) (t : Standing) (back : List Standing) → has_pair (mid ++ t ∷ back) ≡ false → IsPair t
+pub header_within : (mid : List Standing) (t : Standing) (back : List Standing) → has_pair (mid ++ t ∷ back) ≡ false → IsPair t
     → IsAmong (λ s. is_header s.base s.address ≡ true) mid
 header_within [] t back none (n, is) = absurd (true≢false (sym (ap (λ b. pair_or b t.address (has_pair back)) is) ∙ none))
 header_within (m ∷ mid) t back none pair = by m.base refl m.address refl none (λ h. header_within mid t back h pair)
@@ -147,14 +147,14 @@ same_begin (s ∷ q) (t ∷ r) (u ∷ a) h k long =
 abbrev pub IsEither : Address → Standing → Type 0
 IsEither q s = Heads q s ⊎ IsPair s
 
-in_section : (q : Address) (s : Standing) → is_of_section q s ≡ true → IsPair s
+pub in_section : (q : Address) (s : Standing) → is_of_section q s ≡ true → IsPair s
 in_section q s is = by s.base refl s.address is
   where
     by : (base : Option ℕ) → s.base ≡ base → (own : Option Address) → stands_in q base own ≡ true → IsPair s
     by None b own h = cc
     by (Some n) b own h = (n, b)
 
-one_section : (q r : Address) (s : Standing) → is_of_section q s ≡ true → is_of_section r s ≡ true → q ≡ r
+pub one_section : (q r : Address) (s : Standing) → is_of_section q s ≡ true → is_of_section r s ≡ true → q ≡ r
 one_section q r s here there = by s.base s.address here there
   where
     by : (base : Option ℕ) (own : Option Address) → stands_in q base own ≡ true → stands_in r base own ≡ true → q ≡ r
@@ -210,7 +210,7 @@ module _ (q : Address) (some : ¬ (q ≡ [])) (old : List Standing) (are : AreSe
             | inr more ↦ among_behind (Heads q) (h ∷ []) between more
           ]
 
-  never_twice : (front : List Standing) (x : Standing) (mid : List Standing) (y : Standing) (back : List Standing) → old ≡ front ++ x ∷ (mid ++ y ∷ back)
+  pub never_twice : (front : List Standing) (x : Standing) (mid : List Standing) (y : Standing) (back : List Standing) → old ≡ front ++ x ∷ (mid ++ y ∷ back)
       → IsAmong (Heads q) (front ++ x ∷ []) → IsAmong (Heads q) (mid ++ y ∷ []) → ⊥
   never_twice front x mid y back split first second =
       differ q first.front first.line (first.back ++ second.front) second.line (second.back ++ back)
