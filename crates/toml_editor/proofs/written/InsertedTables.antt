@@ -7,7 +7,7 @@ use Rattle.toml_names.specs.model.Addresses.{Address}
 use Rattle.toml_working.specs.InsertingInTables.{insert_in}
 use Rattle.toml_working.specs.Manners.{Manner}
 use Rattle.toml_working.specs.Premises.{HasTable}
-use Rattle.toml_editor.proofs.written.AheadPlace.{IsPutAhead}
+use Rattle.toml_editor.proofs.written.ImpliedPlace.{IsPutAhead, ahead_place}
 use Rattle.toml_editor.proofs.written.BelowPlace.{below_place}
 use Rattle.toml_editor.proofs.written.DottedPlace.{among_place}
 use Rattle.toml_editor.proofs.written.InsertPlaces.{IsPlace, dotted_place, header_place, root_place}
@@ -26,4 +26,4 @@ insert_in_place (s ∷ q) name v manner lines (inr (inl dotted)) =
     let put = among_place (s ∷ q) name v manner lines (λ is. cc) dotted in
     let (first, rest, key_is) = put.some in
     inl (inr (dotted_place (s ∷ q) name v manner lines _ put first rest key_is))
-insert_in_place (s ∷ q) name v manner lines (inr (inr implied)) = ?
+insert_in_place (s ∷ q) name v manner lines (inr (inr implied)) = inr (ahead_place (s ∷ q) name v manner lines (λ is. cc) implied)
