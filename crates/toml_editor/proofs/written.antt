@@ -80,6 +80,7 @@ pub mod Moved
 pub mod Nested
 pub mod OneMaker
 pub mod OnePlace
+pub mod OnePlaceDotted
 pub mod OneSection
 pub mod OnlyElement
 pub mod OuterPairs

@@ -229,6 +229,7 @@ pub fn standing_inserted()
 /// new header and the new line before the first of these.
 pub fn standing_inserted_in_tables()
     ensures among { InsertStandsAmong }
+    ensures place { OnePlaceAmong }
     ensures keyed { DottedIsKeyed }
 {}
 
