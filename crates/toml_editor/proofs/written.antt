@@ -59,6 +59,7 @@ pub mod HeadersRenamed
 pub mod ImpliedHeaders
 pub mod ImpliedPlace
 pub mod ImpliedSplit
+pub mod ImpliedStands
 pub mod ImpliedWay
 pub mod InTurn
 pub mod InsertFollow
