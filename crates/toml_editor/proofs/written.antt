@@ -60,6 +60,7 @@ pub mod HeadersRenamed
 pub mod ImpliedHeaders
 pub mod ImpliedPlace
 pub mod ImpliedSplit
+pub mod ImpliedStands
 pub mod ImpliedWay
 pub mod InTurn
 pub mod InsertFollow
@@ -83,6 +84,7 @@ pub mod Moved
 pub mod Nested
 pub mod OneMaker
 pub mod OnePlace
+pub mod OnePlaceDotted
 pub mod OneSection
 pub mod OnlyElement
 pub mod OuterPairs

@@ -230,7 +230,10 @@ pub fn standing_inserted()
 /// new header and the new line before the first of these.
 pub fn standing_inserted_in_tables()
     ensures among { InsertStandsAmong }
+    ensures place { OnePlaceAmong }
     ensures keyed { DottedIsKeyed }
+    ensures ahead { InsertStandsAhead }
+    ensures below { ImpliedIsBelow }
 {}
 
 /// The value of a key at the root is that of a line, and the lines after a `remove` of the value of a line are what the `remove` makes of

@@ -139,7 +139,7 @@ header_outlined One p ws newline = outlined One ws newline (names_of p)
 header_outlined Two p ws newline = outlined Two ws newline (names_of p)
 
 -- behind it lines stand as without it
-others_stand : (brackets : Brackets) (p : Address) (front back : List Line) (ws : List ℕ) → own_address (named front) (header_expr brackets p ws) ≡ Some p
+pub others_stand : (brackets : Brackets) (p : Address) (front back : List Line) (ws : List ℕ) → own_address (named front) (header_expr brackets p ws) ≡ Some p
     → IsApart brackets p front back → has_pair back ≡ false
     → standing_from (named front ++ named_by (named front) (length front) (header_expr brackets p ws)) (length front + 1) back
     ≡ standing_from (named front) (length front) back
@@ -149,7 +149,7 @@ others_stand brackets p front back ws leads apart unkeyed =
     sym (standing_same back xs ys (length front) (length front + 1) (stand_same back xs ys (length front) (length front + 1) (inr unkeyed)
     (header_counted brackets p ws xs (length front) (standing_from xs (length front) back) leads (back_apart brackets p front back apart))))
 
-header_stood : (brackets : Brackets) (p : Address) (ws newline : List ℕ) (xs : List Named) → own_address xs (header_expr brackets p ws) ≡ Some p
+pub header_stood : (brackets : Brackets) (p : Address) (ws newline : List ℕ) (xs : List Named) → own_address xs (header_expr brackets p ws) ≡ Some p
     → line_stands xs (header_line brackets p ws newline) ≡ new_header p brackets ws newline
 header_stood One p ws newline xs leads =
     ap₂ (λ (a : Option Address) (o : LineOutline). record { address = a; base = None; outline = o }) leads (header_outlined One p ws newline)
