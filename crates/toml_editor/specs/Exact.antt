@@ -36,7 +36,7 @@ use Rattle.toml_editor.specs.PlainTexts.{IsPlainOrHeld, IsPlainOn, IsRefusedIn}
 use Rattle.toml_working.specs.Putting.{TreeInserts, manner}
 use Rattle.toml_working.specs.InTables.{TreePutsIn}
 use Rattle.toml_working.specs.RemovingIn.{RemovesLines, TakesElement}
-use Rattle.toml_editor.specs.SpelledEdits.{AreSteps}
+use Rattle.toml_working.specs.Spellings.{AreSteps}
 use Rattle.toml_working.specs.Standing.{AreOrdered, Read, Standing, holds, standing}
 use Rattle.toml_working.specs.Stands.{KeepsRest, KeepsTexts, Stands, TreeSets}
 use Rattle.toml_working.specs.Starting.{NoneIsGone}

@@ -31,11 +31,15 @@ use Rattle.toml_working.specs.Premises.{HasTable}
 use Rattle.toml_editor.specs.Steps.{IsPlain}
 use Rattle.toml_layout.specs.TreeOutlines.{value_outline}
 use Rattle.toml_editor.proofs.SourceKept.{source_kept}
+use Rattle.toml_editor.proofs.written.ImpliedStands.{implied_is_below, insert_stands_ahead}
 use Rattle.toml_editor.proofs.written.BelowStands.{insert_stands_below}
+use Rattle.toml_editor.proofs.written.DottedKeys.{dotted_is_keyed}
+use Rattle.toml_editor.proofs.written.DottedStands.{insert_stands_among}
 use Rattle.toml_editor.proofs.written.Follow.{follows}
 use Rattle.toml_editor.proofs.written.HeadersAlone.{header_is_alone}
 use Rattle.toml_editor.proofs.written.InsertStands.{insert_stands, root_comes_first}
 use Rattle.toml_editor.proofs.written.OnePlace.{one_place_in_section}
+use Rattle.toml_editor.proofs.written.OnePlaceDotted.{one_place_among}
 use Rattle.toml_editor.proofs.written.StandingOrder.{rules_order}
 
 -- edited lines, for which the tree stands

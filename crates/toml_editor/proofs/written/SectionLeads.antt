@@ -162,32 +162,6 @@ module _ (lines : List Line) (p : Address) (ends : IsNamedLast p) (last : AreLas
 -- ---- the key of a header
 
 -- The key of a new section's header leads to its address.
-use Rattle.std.proofs.Common.{◌≡◌, ◌∙◌, inl, inr, ℕ, zero, suc, ◌+◌, ◌-◌, ◌==◌, Bool, true, false, cond, Option, Some, None, List, [], ◌∷◌, ◌++◌, map, refl, sym, ap, ap₂, subst, append_assoc, append-nil, arith}
-use Rattle.std.proofs.lemmas.Bool.Decides.{nat_tests}
-use Rattle.std.proofs.lemmas.List.{same_from_push}
-use Rattle.std.proofs.lemmas.Option.{same_Some}
-use Rattle.toml_tree.specs.Tree.{Dotted, Line}
-use Rattle.toml_names.specs.declared.model.address.Step.{Step}
-use Rattle.toml_names.specs.declared.model.address.Step.TheVariants.{Name, Index}
-use Rattle.toml_names.specs.mentions.Joining.{Joins, JoinAll, Joined, IsNext}
-use Rattle.toml_names.specs.mentions.Keys.{Key, key_names, part_name}
-use Rattle.toml_names.specs.mentions.Mentions.{Kind, Named, a_table, an_array, count_tables, entered, named, named_by, named_from, root}
-use Rattle.toml_names.specs.mentions.Rules.{KeepsRules}
-use Rattle.toml_names.specs.model.Addresses.{Address, child, element, same_address}
-use Rattle.toml_names.specs.model.Data.{IsDataOf, Kinds, fact_at}
-use Rattle.toml_names.specs.reader.Names.{header_end, own_address}
-use Rattle.toml_names.proofs.Proved.{lines_are_closed, lines_join}
-use Rattle.toml_layout.specs.declared.tree.Brackets.TheVariants.{One}
-use Rattle.toml_working.specs.FreshKeys.{dotted_name, key_named}
-use Rattle.toml_working.specs.Heading.{header_expr}
-use Rattle.toml_working.specs.Headers.{names_of}
-use Rattle.toml_editor.proofs.written.Clear.{same_is}
-use Rattle.toml_editor.proofs.written.Closed.{no_end}
-use Rattle.toml_editor.proofs.written.Counted.{AreLast, counts_grow, last_child, last_or_earlier}
-use Rattle.toml_editor.proofs.written.CountedArrays.{IsNamedLast, count_unnamed, counted_arrays, element_unnamed, root_unnamed}
-use Rattle.toml_editor.proofs.written.FreshKeys.{key_again}
-use Rattle.toml_editor.proofs.written.Pairwise.{Has, any_of_has, has_append_left, has_of_any, has_parts, has_weaker}
-use Rattle.toml_editor.proofs.written.TablesStay.{closed_down}
 
 -- ---- a name is put in a table
 
