@@ -147,6 +147,7 @@ pub mod WayEmptied
 pub mod WayFits
 pub mod WayHeaded
 pub mod WayHeld
+pub mod WayHome
 pub mod WayKeeps
 pub mod WayKept
 pub mod WayLast
