@@ -59,6 +59,7 @@ module _ (profile : Profile) (read : Read) (old new : Tree) (value text : List �
 -- the spelling of the last step
 name_spelled : (q : Address) (name : List ℕ) (p : Address) (steps : List (String Global)) → p ≡ child q name → AreSteps p steps → IsNameIn q name p steps
 name_spelled q name p steps is spelled = record {
+  some = λ none. cc;
   at_is = is;
   steps_is = ap (drop (length q)) (spelled ∙ ap (map step_spelled) is) ∙ last_of q;
 }
@@ -92,7 +93,7 @@ made_lines read old new p name (s ∷ q) v steps lines forms keeps stands own sp
 made_lines read old new p name (s ∷ q) v steps lines forms keeps stands own spelled (inr (inr implied)) inserts below =
     let some : ¬ (s ∷ q ≡ []) = λ e. cc in
     subst (Stands (text_of old.texts.source) read new.slots.items) (sym (insert_stands_ahead (s ∷ q) name v (manner old) lines forms some keeps implied))
-    (below.implied name own spelled (standing lines) stands (rules_order lines keeps) (implied_is_below (s ∷ q) lines implied))
+    (below.implied some name own spelled (standing lines) stands (rules_order lines keeps) (implied_is_below (s ∷ q) lines implied))
 
 pub insert_follows : (profile : Profile) (read : Read) (old new : Tree) (p : Address) (value text : List ℕ) (kinds now : Kinds)
     (at : IsAt profile read old text kinds) → IsFault profile (insert p value) kinds None → IsAfter profile (insert p value) kinds now

@@ -238,13 +238,13 @@ module _ (q : Address) (name text : List ℕ) (v : Value) (piece : Piece) (base 
       put_way c ts line_block (insert_puts line_block (omega arith) line_texts) lines edited formed (line_comes (newlines lines) (newlines edited)) line_asked
 
   -- with a new header of the table, which is owed right above it
-  abbrev both : Piece → List TextUnit
-  both header = header_line_units header q ++ line_block
+  abbrev header_and_line : Piece → List TextUnit
+  header_and_line header = header_line_units header q ++ line_block
 
   both_way : (header : Piece) (lines edited : List Line) → AreLines lines
-      → IsPutWell (AreLines lines) (units lines) (both header) (units edited) (newlines lines) (newlines edited) → HasWay (c ∷ []) (ts ∷ []) lines edited
+      → IsPutWell (AreLines lines) (units lines) (header_and_line header) (units edited) (newlines lines) (newlines edited) → HasWay (c ∷ []) (ts ∷ []) lines edited
   both_way header lines edited formed =
-      put_way c ts (both header) (insert_puts (both header) (omega arith) line_texts) lines edited formed
+      put_way c ts (header_and_line header) (insert_puts (header_and_line header) (omega arith) line_texts) lines edited formed
       ((λ is none. inr (inr (inl (p, p, refl, refl, (name, refl))))), line_comes (newlines lines) (newlines edited))
       (λ before after. (
         (λ k. record { line = λ is. inl (owed q (inr (Name name, [], refl))); comment = λ is. absurd (true≢false (sym is)) }),
