@@ -1,11 +1,10 @@
 -- A line that is put in for a table which dotted keys make.
-use Rattle.std.proofs.Common.{◌≡◌, ◌∙◌, inl, inr, ℕ, suc, ◌+◌, ◌≤◌, Bool, true, false, ◌==◌, ◌&&◌, List, [], ◌∷◌, ◌++◌, drop, length, map, take, Option, Some, None, refl, ap, ap₂, sym, subst, arith, append_assoc, true≢false}
+use Rattle.std.proofs.Common.{◌≡◌, ◌∙◌, inl, inr, ℕ, suc, ◌+◌, ◌≤◌, true, ◌&&◌, List, [], ◌∷◌, ◌++◌, drop, length, map, take, Option, Some, None, refl, ap, ap₂, sym, subst, arith, append_assoc}
 use Rattle.std.specs.List.{list_any}
 use Rattle.std.specs.declared.alloc.Global.{Global}
 use Rattle.std.specs.declared.string.String.{String}
 use Rattle.std.proofs.lemmas.Bool.{eq-eqb, ltb-true}
-use Rattle.std.proofs.lemmas.List.{append_cancel_right, drop_at, length-append, take_at}
-use Rattle.std.specs.Prelude.{string_bytes}
+use Rattle.std.proofs.lemmas.List.{append_cancel_right, length-append, take_at}
 use Rattle.toml_scalar.specs.Spelling.{spelled}
 use Rattle.toml_names.specs.declared.model.address.Step.{Step}
 use Rattle.toml_names.specs.declared.model.address.Step.TheVariants.{Name}
@@ -16,12 +15,11 @@ use Rattle.toml_tree.specs.Spells.{EachIs}
 use Rattle.toml_names.proofs.Proved.{same_step-self}
 use Rattle.toml_layout.specs.Beginnings.{begins}
 use Rattle.toml_layout.specs.Outlines.{ValueOutline}
-use Rattle.toml_layout.specs.declared.layout.Layout.{Layout}
 use Rattle.toml_working.specs.declared.lines.Slot.{Slot}
 use Rattle.toml_working.specs.declared.lines.Sought.TheVariants as sought
 use Rattle.toml_working.specs.declared.working.Position.{Position}
 use Rattle.toml_working.specs.declared.working.Tree.{Tree}
-use Rattle.toml_working.specs.DottedTables.{AreDotted, IsBehindEntry, IsKeyed, PutsDotted, StandsAmong, TreePutsDotted, is_inside, is_maker, makes_from, stands_inside}
+use Rattle.toml_working.specs.DottedTables.{IsKeyed, PutsDotted, StandsAmong, TreePutsDotted, is_inside, is_maker, makes_from, stands_inside}
 use Rattle.toml_working.specs.FirstKeys.{spacing_put}
 use Rattle.toml_working.specs.InTables.{TreePutsIn}
 use Rattle.toml_working.specs.InsertStanding.{line_put}

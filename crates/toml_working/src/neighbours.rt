@@ -9,7 +9,6 @@ use crate::lines::{Body, Kept, Line, Slot};
 use crate::working::{Before, Position, Tree};
 use std::alloc::AllocError;
 use toml_layout::{Equals, Expr, Layout, Leaf, Texts};
-use toml_names::Address;
 use toml_text::ws_len;
 
 /// What stands on a line.
