@@ -19,7 +19,7 @@ use Rattle.toml_working.specs.declared.lines.Sought.TheVariants as sought
 use Rattle.toml_working.specs.declared.working.Position.{Position}
 use Rattle.toml_working.specs.declared.working.TablePlace.{TablePlace}
 use Rattle.toml_working.specs.declared.working.TablePlace.TheVariants as places
-use Rattle.toml_working.specs.Seeing.{Found, found, is_sought, is_sought_line, heads, is_dotted, heads_below, read_by, line_at, FindsLine, FindsTable, FindsHolder, FindsAny, FindsValue, AreHeaded, IsHeaderPlace, IsSoughtAt, IsTableLine, HoldsNone, LacksSought}
+use Rattle.toml_working.specs.Seeing.{Found, found, is_sought, is_sought_line, heads, is_dotted, heads_below, read_by, line_at, FindsLine, FindsTable, FindsHolder, FindsAny, FindsValue, AreHeaded, IsSoughtAt, IsTableLine, HoldsNone, LacksSought}
 use Rattle.toml_working.specs.Standing.{Standing, Read, StandAlone, lies_below, leads_to, covers_at, covers, is_below, holds, slot_standing, slots_standing}
 use Rattle.toml_layout.specs.Beginnings.{begins}
 use Rattle.toml_working.proofs.AtPlace.{slot_of}

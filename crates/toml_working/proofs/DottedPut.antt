@@ -1,11 +1,10 @@
 -- A line that is put in for a table which dotted keys make.
-use Rattle.std.proofs.Common.{◌≡◌, ◌∙◌, inl, inr, ℕ, suc, ◌+◌, ◌≤◌, Bool, true, false, ◌==◌, ◌&&◌, List, [], ◌∷◌, ◌++◌, drop, length, map, take, Option, Some, None, refl, ap, ap₂, sym, subst, arith, append_assoc, true≢false}
+use Rattle.std.proofs.Common.{◌≡◌, ◌∙◌, inl, inr, ℕ, suc, ◌+◌, ◌≤◌, true, ◌&&◌, List, [], ◌∷◌, ◌++◌, drop, length, map, take, Option, Some, None, refl, ap, ap₂, sym, subst, arith, append_assoc}
 use Rattle.std.specs.List.{list_any}
 use Rattle.std.specs.declared.alloc.Global.{Global}
 use Rattle.std.specs.declared.string.String.{String}
 use Rattle.std.proofs.lemmas.Bool.{eq-eqb, ltb-true}
-use Rattle.std.proofs.lemmas.List.{append_cancel_right, drop_at, length-append, take_at}
-use Rattle.std.specs.Prelude.{string_bytes}
+use Rattle.std.proofs.lemmas.List.{append_cancel_right, length-append, take_at}
 use Rattle.toml_scalar.specs.Spelling.{spelled}
 use Rattle.toml_names.specs.declared.model.address.Step.{Step}
 use Rattle.toml_names.specs.declared.model.address.Step.TheVariants.{Name}
@@ -16,12 +15,11 @@ use Rattle.toml_tree.specs.Spells.{EachIs}
 use Rattle.toml_names.proofs.Proved.{same_step-self}
 use Rattle.toml_layout.specs.Beginnings.{begins}
 use Rattle.toml_layout.specs.Outlines.{ValueOutline}
-use Rattle.toml_layout.specs.declared.layout.Layout.{Layout}
 use Rattle.toml_working.specs.declared.lines.Slot.{Slot}
 use Rattle.toml_working.specs.declared.lines.Sought.TheVariants as sought
 use Rattle.toml_working.specs.declared.working.Position.{Position}
 use Rattle.toml_working.specs.declared.working.Tree.{Tree}
-use Rattle.toml_working.specs.DottedTables.{AreDotted, IsBehindEntry, IsKeyed, PutsDotted, StandsAmong, TreePutsDotted, is_inside, is_maker, makes_from, stands_inside}
+use Rattle.toml_working.specs.DottedTables.{IsKeyed, PutsDotted, StandsAmong, TreePutsDotted, is_inside, is_maker, makes_from, stands_inside}
 use Rattle.toml_working.specs.FirstKeys.{spacing_put}
 use Rattle.toml_working.specs.InTables.{TreePutsIn}
 use Rattle.toml_working.specs.InsertStanding.{line_put}
@@ -121,17 +119,20 @@ behind_maker section read slots from at m line front back there of_section is he
     by [] e is heads = let same : m ≡ line = cc in inl (subst (λ x. is_of_section section x ≡ true) same of_section)
     by (x ∷ xs) e is heads =
         let same : x ≡ m = cc in
-        inr (pair, (
-          lines_before read slots from.slot from.index,
-          m,
-          xs,
-          append_cancel_right _ _ (line ∷ back)
-              (ap (λ r. lines_before read slots at.slot at.index ++ r) (sym rest) ∙ sym (split_at read slots at.slot at.index) ∙ split_at read slots from.slot from.index
-              ∙ ap (λ r. lines_before read slots from.slot from.index ++ r) (is ∙ ap (λ y. y ∷ (xs ++ line ∷ back)) same)
-              ∙ sym (append_assoc (lines_before read slots from.slot from.index) (m ∷ xs) (line ∷ back))),
-          of_section,
-          heads.1,
-        ))
+        inr (
+          pair,
+          (
+            lines_before read slots from.slot from.index,
+            m,
+            xs,
+            append_cancel_right _ _ (line ∷ back)
+                (ap (λ r. lines_before read slots at.slot at.index ++ r) (sym rest) ∙ sym (split_at read slots at.slot at.index) ∙ split_at read slots from.slot from.index
+                ∙ ap (λ r. lines_before read slots from.slot from.index ++ r) (is ∙ ap (λ y. y ∷ (xs ++ line ∷ back)) same)
+                ∙ sym (append_assoc (lines_before read slots from.slot from.index) (m ∷ xs) (line ∷ back))),
+            of_section,
+            heads.1,
+          ),
+        )
 
 module _ (q own : Address) (steps : List (String Global)) (v : ValueOutline) (read : Read) (from at : Position) (old now : Tree) where
   -- what then stands on the lines

@@ -1,8 +1,8 @@
 -- The last line with a key and a value strictly below a table, before the first header.
-use Rattle.std.proofs.Common.{◌≡◌, ◌∙◌, inl, inr, ℕ, ◌+◌, ◌^◌, ◌<◌, Bool, true, false, not, ◌&&◌, cond, List, [], ◌∷◌, ◌++◌, Option, Some, None, refl, ap, ap₂, sym, subst, append_assoc, true≢false}
+use Rattle.std.proofs.Common.{◌≡◌, ◌∙◌, inr, ℕ, ◌+◌, ◌^◌, ◌<◌, Bool, true, false, not, ◌&&◌, cond, List, [], ◌∷◌, ◌++◌, Option, Some, None, refl, ap, ap₂, sym, subst, append_assoc, true≢false}
 use Rattle.std.specs.Prelude.{option_map, slice_get, IfSome, MatchOption}
 use Rattle.std.specs.Option.{unwrap_or}
-use Rattle.toml_names.specs.model.Addresses.{Address, is_above}
+use Rattle.toml_names.specs.model.Addresses.{Address}
 use Rattle.toml_tree.specs.Spells.{EachIs}
 use Rattle.toml_units.specs.declared.unit.Unit.{Unit as ReadUnit}
 use Rattle.toml_layout.specs.declared.layout.Layout.{Layout}
@@ -14,7 +14,7 @@ use Rattle.toml_working.specs.DottedTables.{has_inside, has_more, is_inside, sta
 use Rattle.toml_working.specs.InsertStanding.{has_pair, pair_or}
 use Rattle.toml_working.specs.Placing.{IsLastPair, IsNoHeader, IsPair, is_header, lines_from}
 use Rattle.toml_working.specs.Sections.{EndsSection, IsOfSectionAt, is_of_section}
-use Rattle.toml_working.specs.Seeing.{found, line_at, read_by, seen}
+use Rattle.toml_working.specs.Seeing.{found, line_at, seen}
 use Rattle.toml_working.specs.Standing.{Standing, Read, slot_standing}
 use Rattle.toml_working.specs.TableEnds.{EndsAmong, FindsEnd, FindsInside, FindsTableEnd, IsInsideFrom, IsLastFor, IsLastInside, IsOutside, PassedInside, inside_at}
 use Rattle.toml_working.proofs.Each.{each_append, each_back, each_front}

@@ -24,7 +24,7 @@ use Rattle.toml_working.specs.Manners.{Manner}
 use Rattle.toml_working.specs.Placing.{lines_before, lines_from}
 use Rattle.toml_working.specs.Putting.{PutsBehind}
 use Rattle.toml_working.specs.Sections.{EndsSection, FindsSectionEnd, InsertsBelow, IsBehindHeader, IsEndFrom, IsOfSectionAt, is_of_section}
-use Rattle.toml_working.specs.Seeing.{AreHeaded, Found, IsSoughtAt, found, is_sought, is_sought_line, line_at}
+use Rattle.toml_working.specs.Seeing.{AreHeaded, IsSoughtAt, found, is_sought_line, line_at}
 use Rattle.toml_working.specs.Standing.{Standing, Read, AreOrdered, StandAlone, holds, slots_standing}
 use Rattle.toml_working.specs.Stands.{Stands}
 use Rattle.toml_working.proofs.Alone.{IsOfTable, below_pairs, sought_there}

@@ -1,6 +1,6 @@
 -- The line behind which a new one goes of a table that dotted keys make: from a place in its section on, the last one with a key and a value before
 -- the next header, by layout `Follow` the last one of those that stand strictly below the table.
-use Rattle.std.specs.Prelude.{◌≡◌, ◌⊎◌, ℕ, ◌+◌, ◌^◌, ◌<◌, Bool, true, false, List, [], ◌∷◌, ◌++◌, Option, Some, IfSome, MatchOption, if◌then◌else◌}
+use Rattle.std.specs.Prelude.{◌≡◌, ◌⊎◌, ℕ, ◌+◌, ◌^◌, ◌<◌, Bool, true, false, List, ◌∷◌, ◌++◌, Option, Some, MatchOption, if◌then◌else◌}
 use Rattle.toml_names.specs.model.Addresses.{Address}
 use Rattle.toml_tree.specs.Spells.{EachIs}
 use Rattle.toml_tree.specs.Tree as tree

@@ -103,8 +103,7 @@ among_section s front l back are (inr (pair, (before, m, between, split, of_sect
     ap (λ f. f ++ l ∷ back) split ∙ append_assoc before (m ∷ between) (l ∷ back) in
     let (n, is) = in_section s m of_section in
     let own = one_section s (section_over [] before) m of_section
-        ((sectioned_back before (m ∷ (between ++ l ∷ back)) [] (subst (AreSectioned []) whole are)).0 (n, is)) in
-    (
+    ((sectioned_back before (m ∷ (between ++ l ∷ back)) [] (subst (AreSectioned []) whole are)).0 (n, is)) in (
       ap (section_over []) split ∙ over_append before (m ∷ between) []
           ∙ ap (λ r. section_over r between) (pair_section (section_over [] before) m.base m.address n is) ∙ over_between between (section_over [] before) none ∙ sym own,
       pair,

@@ -22,7 +22,6 @@ use Rattle.toml_editor.specs.UnitBlocks.{BeginWithLine, IsBlockPut, pair_line_un
 use Rattle.toml_editor.proofs.written.Alike.{alike_self, alike_pair}
 use Rattle.toml_editor.proofs.written.InsertSpaced.{line_formed}
 use Rattle.toml_editor.proofs.written.InsertPlace.{IsFull}
-
 use Rattle.toml_editor.proofs.written.FreshKeys.{spelled_again}
 use Rattle.toml_editor.proofs.written.LastLines.{LastIsFull, full_behind, full_line}
 use Rattle.toml_editor.proofs.written.WayBlock.{inside_lines, lines_append}

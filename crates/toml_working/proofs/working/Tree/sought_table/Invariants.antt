@@ -1,8 +1,7 @@
-use Rattle.std.proofs.Common.{◌≡◌, List, false, take}
+use Rattle.std.proofs.Common.{List, take}
 use Rattle.std.specs.Prelude.{MatchOption}
-use Rattle.std.specs.List.{list_any}
 use Rattle.toml_tree.specs.Tree as tree
-use Rattle.toml_working.specs.Seeing.{FindsTable, LacksSought, is_sought_line, read_by}
+use Rattle.toml_working.specs.Seeing.{FindsTable, LacksSought, read_by}
 use Rattle.toml_working.specs.Standing.{slots_standing}
 use Rattle.toml_working.specs.TablePlaces.{IsDottedPlace, IsImpliedPlace}
 use Rattle.toml_working.specs.declared.lines.Sought.TheVariants.{Dotted, Header, HeaderBelow}

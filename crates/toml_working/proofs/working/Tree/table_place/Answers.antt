@@ -1,7 +1,4 @@
-use Rattle.std.proofs.Common.{subst}
-use Rattle.std.specs.Prelude.{IfSome}
-use Rattle.toml_working.specs.Seeing.{FindsTable, read_by}
-use Rattle.toml_working.specs.TablePlaces.{MeetsDotted}
+use Rattle.toml_working.specs.Seeing.{read_by}
 use Rattle.toml_working.proofs.TablesFound.{no_dotted_met}
 use Rattle.toml_working.proofs.working.Tree.table_place.Goals as goal
 
