@@ -1,6 +1,6 @@
 -- `insert` of a name in a table that has no header: a new line in the section whose dotted keys make the table, or a new header and a line before
 -- the first header below it.
-use Rattle.std.specs.Prelude.{ℕ, ◌+◌, Bool, false, ◌||◌, List, [], ◌∷◌, ◌++◌, length, map, drop, if◌then◌else◌}
+use Rattle.std.specs.Prelude.{ℕ, Bool, false, ◌||◌, List, [], ◌∷◌, ◌++◌, length, map, drop, if◌then◌else◌}
 use Rattle.std.specs.List.{list_any}
 use Rattle.toml_tree.specs.Tree.{Value, BlankLine, KeyValLine, TableLine, ArrayTableLine, Line}
 use Rattle.toml_names.specs.mentions.Keys.{Key, key_names}
