@@ -48,7 +48,7 @@ use Rattle.toml_editor.proofs.written.Unplain.{each_plain, rules_plain}
 
 -- ---- no line holds the table
 
-module _ (q more : Address) where
+module _ (q more : Address) (l : Standing) (at : l.address ≡ Some (q ++ more)) (head : l.base ≡ None) where
   -- what begins the table's address begins that of the header below it
   held_below : (a : Address) (b : Bool) → begins a q ≡ b → begins a (q ++ more) ≡ false → b ≡ false
   held_below a false is not = refl
@@ -58,24 +58,23 @@ module _ (q more : Address) where
       longer (inl e) = ap (λ r. begins a (r ++ more)) (sym e) ∙ begins_longer a more
       longer (inr (t, rest, e)) = ap (begins a) (ap (λ (r : Address). r ++ more) e ∙ append_assoc a (t ∷ rest) more) ∙ begins_longer a (t ∷ (rest ++ more))
 
-  not_held : (l : Standing) → l.address ≡ Some (q ++ more) → (base : Option ℕ) (own : Option Address) → covers_at base own l ≡ false → leads_to q base own ≡ false
-  not_held l at None own apart = refl
-  not_held l at (Some n) None apart = refl
-  not_held l at (Some n) (Some a) apart = held_below a (begins a q) refl (sym (ap (lies_below a) at) ∙ apart)
+  not_held : (base : Option ℕ) (own : Option Address) → covers_at base own l ≡ false → leads_to q base own ≡ false
+  not_held None own apart = refl
+  not_held (Some n) None apart = refl
+  not_held (Some n) (Some a) apart = held_below a (begins a q) refl (sym (ap (lies_below a) at) ∙ apart)
 
   abbrev Apart : Standing → Standing → Type 0
   Apart s t = (covers s t ≡ false) × (covers t s ≡ false)
 
   -- so none of the lines holds the table, where one is such a header and they stand alone
-  none_held : (front : List Standing) (l : Standing) (back : List Standing) → PairsAre Apart (front ++ l ∷ back) → l.address ≡ Some (q ++ more) → l.base ≡ None
-      → list_any (holds q) (front ++ l ∷ back) ≡ false
-  none_held [] l back alone at head = ap₂ (λ x y. x || y) (ap (λ b. leads_to q b l.address) head) (all back alone.0)
+  none_held : (front back : List Standing) → PairsAre Apart (front ++ l ∷ back) → list_any (holds q) (front ++ l ∷ back) ≡ false
+  none_held [] back alone = ap₂ (λ x y. x || y) (ap (λ b. leads_to q b l.address) head) (all back alone.0)
     where
       all : (ts : List Standing) → EachIs (Apart l) ts → list_any (holds q) ts ≡ false
       all [] h = refl
-      all (t ∷ ts) h = ap₂ (λ x y. x || y) (not_held l at t.base t.address h.0.1) (all ts h.1)
-  none_held (s ∷ front) l back alone at head =
-      ap₂ (λ x y. x || y) (not_held l at s.base s.address (each_back (Apart s) front (l ∷ back) alone.0).0.0) (none_held front l back alone.1 at head)
+      all (t ∷ ts) h = ap₂ (λ x y. x || y) (not_held t.base t.address h.0.1) (all ts h.1)
+  none_held (s ∷ front) back alone =
+      ap₂ (λ x y. x || y) (not_held s.base s.address (each_back (Apart s) front (l ∷ back) alone.0).0.0) (none_held front back alone.1)
 
 -- ---- no line makes the table
 
@@ -118,8 +117,8 @@ module _ (q : Address) where
   not_headed a not same = true≢false (sym ((same_address-decides a q).1 same) ∙ not)
 
   -- what a line names does not, where it neither holds the table nor makes it
-  line_not_made : (xs : List Named) (n : ℕ) (e : Expr) → heads q (line_base xs e) (own_address xs e) ≡ false → is_dotted q (line_base xs e) (own_address xs e) ≡ false
-      → leads_to q (line_base xs e) (own_address xs e) ≡ false → EachIs IsNotMade (named_by xs n e)
+  line_not_made : (xs : List Named) (n : ℕ) (e : Expr) → heads q (line_base xs e) (own_address xs e) ≡ false
+      → is_dotted q (line_base xs e) (own_address xs e) ≡ false → leads_to q (line_base xs e) (own_address xs e) ≡ false → EachIs IsNotMade (named_by xs n e)
   line_not_made xs n (BlankLine b) head dotted held = tt
   line_not_made xs n (KeyValLine ws pair tail) head dotted held =
       let to = below (section xs) (key_names pair.assign.key) in
@@ -156,7 +155,7 @@ module _ (q : Address) where
       let (head, x, rest, at) = implies_is q among.line.base among.line.address among.holds in
       let alone = pairs_of_all _ _ (subst StandAlone among.is (rules_order lines keeps).alone) in
       let held : list_any (holds q) (standing lines) ≡ false =
-      ap (list_any (holds q)) among.is ∙ none_held q (Name x ∷ rest) among.front among.line among.back alone at head in
+      ap (list_any (holds q)) among.is ∙ none_held q (Name x ∷ rest) among.line at head among.front among.back alone in
       each_plain lines IsNotMade (from_not_made lines (root ∷ []) 0 implied.no_header implied.no_dotted held ((λ same. refl), tt))
 
 -- ---- what goes with a table that a header passed
@@ -171,7 +170,8 @@ meets a (m ∷ ms) goes (inl (at, role, kind)) = (
   each_weaker (Goes m) (λ e. e.address ≡ a → Meets e.role) (λ l g same. inr (subst (λ r. may_follow r l.role ≡ true) role (g (at ∙ sym same)))) ms goes.0,
 )
 meets a (m ∷ ms) goes (inr h) = (
-  (λ same. inl (from_has (Goes m) (IsTwin a) (may_follow m.role Passed ≡ true) (λ l g is. subst (λ r. may_follow m.role r ≡ true) is.1 (g (same ∙ sym is.0))) ms goes.0 h)),
+  (λ same.
+  inl (from_has (Goes m) (IsTwin a) (may_follow m.role Passed ≡ true) (λ l g is. subst (λ r. may_follow m.role r ≡ true) is.1 (g (same ∙ sym is.0))) ms goes.0 h)),
   meets a ms goes.1 h,
 )
 
@@ -210,7 +210,8 @@ header_goes Tables (inr h) not = absurd (true≢false (sym h))
 
 -- ---- the lines
 
-module _ (q : Address) (name : List ℕ) (v : Value) (manner : Manner) (lines new : List Line) (implied : HasImplied lines q) (put : IsPutAhead q name v manner lines new) where
+module _ (q : Address) (name : List ℕ) (v : Value) (manner : Manner) (lines new : List Line) (implied : HasImplied lines q)
+    (put : IsPutAhead q name v manner lines new) where
   abbrev mid : List Line
   mid = headed q name v manner lines new put
 
@@ -260,16 +261,21 @@ module _ (q : Address) (name : List ℕ) (v : Value) (manner : Manner) (lines ne
   abbrev BothGo : Named → Type 0
   BothGo b = EachIs (λ e. Goes e b) xs × EachIs (Goes b) ys
 
-  goes : (b : Named) → IsOfHeader IsEnd q (named at_header.front) b → EachIs (λ e. (e.address ≡ b.address → Meets e.role) × IsNotMade q e) (xs ++ ys)
-      → EachIs (IsLater (named at_header.front)) ys → BothGo b
+  -- where that meets a table that was passed, and does not make this one
+  abbrev IsOld : Address → Named → Type 0
+  IsOld a e = (e.address ≡ a → Meets e.role) × IsNotMade q e
+
+  goes : (b : Named) → IsOfHeader IsEnd q (named at_header.front) b → EachIs (IsOld b.address) (xs ++ ys) → EachIs (IsLater (named at_header.front)) ys → BothGo b
   goes b (inl (at, role)) olds later = (
-    each_weaker _ (λ e. Goes e b) (λ e h same. subst (λ r. may_follow e.role r ≡ true) (sym role) (header_goes e.role (h.0 same) (h.1 (same ∙ at))).0) xs (each_front _ xs ys olds),
-    each_weaker _ (Goes b) (λ l h same. subst (λ r. may_follow r l.role ≡ true) (sym role) (header_goes l.role (h.0 (sym same)) (h.1 (sym same ∙ at))).1) ys
-        (each_back _ xs ys olds),
+    each_weaker _ (λ e. Goes e b) (λ e h same. subst (λ r. may_follow e.role r ≡ true) (sym role) (header_goes e.role (h.0 same) (h.1 (same ∙ at))).0)
+        xs (each_front _ xs ys olds),
+    each_weaker _ (Goes b) (λ l h same. subst (λ r. may_follow r l.role ≡ true) (sym role) (header_goes l.role (h.0 (sym same)) (h.1 (sym same ∙ at))).1)
+        ys (each_back _ xs ys olds),
   )
   goes b (inr passed) olds later = (
-    each_weaker _ (λ e. Goes e b) (λ e h same. subst (λ r. may_follow e.role r ≡ true) (sym passed.role) (passed_behind e.role (h.0 same))) xs (each_front _ xs ys olds),
-    each_weaker (λ l. ((l.address ≡ b.address → Meets l.role) × IsNotMade q l) × IsLater (named at_header.front) l) (Goes b)
+    each_weaker _ (λ e. Goes e b) (λ e h same. subst (λ r. may_follow e.role r ≡ true) (sym passed.role) (passed_behind e.role (h.0 same)))
+        xs (each_front _ xs ys olds),
+    each_weaker (λ l. IsOld b.address l × IsLater (named at_header.front) l) (Goes b)
         (λ l h same.
         subst (λ r. may_follow r l.role ≡ true) (sym passed.role) (passed_before l.role (h.0.0 (sym same)) (λ is. not_element l same (h.1 is))))
         ys (each_both _ (IsLater (named at_header.front)) ys (each_back _ xs ys olds) later),
@@ -288,11 +294,12 @@ module _ (q : Address) (name : List ℕ) (v : Value) (manner : Manner) (lines ne
           let count = (plain_alike (named at_header.front)).counts c in
           let lower : count_tables (named at_header.front) c ≤ i = omega (arith, count, low) in (c, i, at, lower)
 
-  all_go : KeepsRules (named_plain lines) → (bs : List Named) → EachIs (IsOfHeader IsEnd q (named at_header.front)) bs → HaveTwins (named_plain lines) bs → EachIs BothGo bs
+  all_go : KeepsRules (named_plain lines) → (bs : List Named) → EachIs (IsOfHeader IsEnd q (named at_header.front)) bs → HaveTwins (named_plain lines) bs
+      → EachIs BothGo bs
   all_go keeps [] are twins = tt
   all_go keeps (b ∷ bs) are twins = (
     goes b are.0
-        (subst (EachIs (λ e. (e.address ≡ b.address → Meets e.role) × IsNotMade q e)) there.was
+        (subst (EachIs (IsOld b.address)) there.was
         (each_both (λ e. e.address ≡ b.address → Meets e.role) (IsNotMade q) (named_plain lines)
         (meets b.address (named_plain lines) (pairs_of_all Goes (named_plain lines) keeps) twins.0) (none_makes q lines implied ((rules_plain lines).1 keeps))))
         laters,
@@ -307,8 +314,8 @@ module _ (q : Address) (name : List ℕ) (v : Value) (manner : Manner) (lines ne
       (each_other Goes (section_block q) xs (each_weaker BothGo (λ b. EachIs (λ e. Goes e b) xs) (λ b h. h.0) (section_block q) go))
       (each_weaker BothGo (λ b. EachIs (Goes b) ys) (λ b h. h.1) (section_block q) go))
 
-  pub ahead_named_first : AreNamedFirst q (named_plain lines) (value_block (child q name) v) (named_plain new)
-  ahead_named_first = record {
+  pub ahead_named : AreNamedFirst q (named_plain lines) (value_block (child q name) v) (named_plain new)
+  ahead_named = record {
     tables = section_block q;
     mid = named_plain mid;
     again = ahead_again q lines implied;
@@ -316,7 +323,3 @@ module _ (q : Address) (name : List ℕ) (v : Value) (manner : Manner) (lines ne
     second = second;
     rules = rules;
   }
-
-pub ahead_named : (q : Address) (name : List ℕ) (v : Value) (manner : Manner) (lines new : List Line) → HasImplied lines q → IsPutAhead q name v manner lines new
-    → AreNamedFirst q (named_plain lines) (value_block (child q name) v) (named_plain new)
-ahead_named q name v manner lines new implied put = ahead_named_first q name v manner lines new implied put

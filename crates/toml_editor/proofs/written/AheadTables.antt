@@ -64,7 +64,8 @@ names_at_end : (xs : List Named) (key : Key) (at : Address) → names_of (header
 names_at_end xs [] at = sym (append-nil (names_of at))
 names_at_end xs (n ∷ []) at = names_child at n
 names_at_end xs (n ∷ m ∷ more) at =
-    names_at_end xs (m ∷ more) (entered xs (child at n)) ∙ ap (λ ns. ns ++ m ∷ more) (by (enters xs (child at n))) ∙ append_assoc (names_of at) (n ∷ []) (m ∷ more)
+    names_at_end xs (m ∷ more) (entered xs (child at n)) ∙ ap (λ ns. ns ++ m ∷ more) (by (enters xs (child at n)))
+    ∙ append_assoc (names_of at) (n ∷ []) (m ∷ more)
   where
     by : Enters xs (child at n) → names_of (entered xs (child at n)) ≡ names_of at ++ n ∷ []
     by (inl e) = ap names_of e ∙ names_child at n
@@ -89,44 +90,52 @@ passes_all : (end : Address → List Named) (steps at : Address) (x : List ℕ) 
 passes_all end [] at x rest = tt
 passes_all end (Index i ∷ steps) at x rest = passes_all end steps (element at i) x rest
 passes_all end (Name n ∷ []) at x rest = (inl (refl, refl, refl), tt)
-passes_all end (Name n ∷ Name m ∷ steps) at x rest =
-    (inl (refl, refl, refl), each_weaker _ _ (λ b h. inr h) (passed_from (ends_table 0) (child at n) (Name m ∷ steps)) (passes_all end (Name m ∷ steps) (child at n) x rest))
+passes_all end (Name n ∷ Name m ∷ steps) at x rest = (
+  inl (refl, refl, refl),
+  each_weaker _ _ (λ b h. inr h) (passed_from (ends_table 0) (child at n) (Name m ∷ steps)) (passes_all end (Name m ∷ steps) (child at n) x rest),
+)
 passes_all end (Name n ∷ Index i ∷ steps) at x rest =
-    (inl (refl, refl, refl), each_weaker _ _ (λ b h. inr h) (passed_from (ends_table 0) (element (child at n) i) steps) (passes_all end steps (element (child at n) i) x rest))
+    let to = element (child at n) i in
+    (inl (refl, refl, refl), each_weaker _ _ (λ b h. inr h) (passed_from (ends_table 0) to steps) (passes_all end steps to x rest))
 
--- all these are tables, at the table's address or above it
-all_above : (steps at : Address) → EachIs (λ b. (b.kind ≡ a_table) × ((rest : Address) × (at ++ steps ≡ b.address ++ rest))) (passed_from (ends_table 0) at steps)
+-- a table at the address or above it
+abbrev IsTableOver : Address → Named → Type 0
+IsTableOver a b = (b.kind ≡ a_table) × ((rest : Address) × (a ≡ b.address ++ rest))
+
+-- such are all these
+all_above : (steps at : Address) → EachIs (IsTableOver (at ++ steps)) (passed_from (ends_table 0) at steps)
 all_above [] at = tt
 all_above (Index i ∷ steps) at =
-    subst (λ a. EachIs (λ b. (b.kind ≡ a_table) × ((rest : Address) × (a ≡ b.address ++ rest))) (passed_from (ends_table 0) (element at i) steps)) (append_assoc at (Index i ∷ []) steps)
-    (all_above steps (element at i))
+    subst (λ a. EachIs (IsTableOver a) (passed_from (ends_table 0) (element at i) steps)) (append_assoc at (Index i ∷ []) steps) (all_above steps (element at i))
 all_above (Name n ∷ []) at = ((refl, ([], sym (append-nil (child at n)))), tt)
 all_above (Name n ∷ Name m ∷ steps) at = (
   (refl, (Name m ∷ steps, sym (append_assoc at (Name n ∷ []) (Name m ∷ steps)))),
-  subst (λ a. EachIs (λ b. (b.kind ≡ a_table) × ((rest : Address) × (a ≡ b.address ++ rest))) (passed_from (ends_table 0) (child at n) (Name m ∷ steps)))
-      (append_assoc at (Name n ∷ []) (Name m ∷ steps)) (all_above (Name m ∷ steps) (child at n)),
+  subst (λ a. EachIs (IsTableOver a) (passed_from (ends_table 0) (child at n) (Name m ∷ steps))) (append_assoc at (Name n ∷ []) (Name m ∷ steps))
+      (all_above (Name m ∷ steps) (child at n)),
 )
 all_above (Name n ∷ Index i ∷ steps) at =
     let to = element (child at n) i in
-    let same : to ++ steps ≡ at ++ Name n ∷ Index i ∷ steps = append_assoc (child at n) (Index i ∷ []) steps ∙ append_assoc at (Name n ∷ []) (Index i ∷ steps) in (
-      (refl, (steps, sym same)),
-      subst (λ a. EachIs (λ b. (b.kind ≡ a_table) × ((rest : Address) × (a ≡ b.address ++ rest))) (passed_from (ends_table 0) to steps)) same (all_above steps to),
-    )
+    let same : to ++ steps ≡ at ++ Name n ∷ Index i ∷ steps =
+    append_assoc (child at n) (Index i ∷ []) steps ∙ append_assoc at (Name n ∷ []) (Index i ∷ steps) in
+    ((refl, (steps, sym same)), subst (λ a. EachIs (IsTableOver a) (passed_from (ends_table 0) to steps)) same (all_above steps to))
 
 module _ (q : Address) where
-  -- so it is of a line
+  -- so it is of a key, and of a line
+  key_twins : (xs : List Named) (end : Address → List Named) (key : Key) → (x : List ℕ) × (rest : Address) × (header_end xs [] key ≡ q ++ Name x ∷ rest)
+      → HaveTwins (followed 0 xs end [] key) (section_block q)
+  key_twins xs end key (x, rest, is) =
+      subst (λ ms. HaveTwins ms (section_block q)) (sym (key_passes xs end key ∙ ap (passed_from end []) is)) (passes_all end q [] x rest)
+
   line_passes : (xs : List Named) (e : Expr) → implies q (line_base xs e) (own_address xs e) ≡ true → HaveTwins (named_by xs 0 e) (section_block q)
   line_passes xs (BlankLine b) h = cc
   line_passes xs (KeyValLine ws pair tail) h = cc
   line_passes xs (TableLine ws header tail) h =
       let key = key_names header.key in
-      let (x, rest, is) = child_is q (header_end xs [] key) h in
-      subst (λ ms. HaveTwins ms (section_block q)) (sym (key_passes xs (ends_table 0) key ∙ ap (passed_from (ends_table 0) []) is)) (passes_all (ends_table 0) q [] x rest)
+      key_twins xs (ends_table 0) key (child_is q (header_end xs [] key) h)
   line_passes xs (ArrayTableLine ws header tail) h =
       let key = key_names header.key in
       let to = header_end xs [] key in
-      let (x, rest, is) = child_is q to (array_below q to (count_tables xs to) h) in
-      subst (λ ms. HaveTwins ms (section_block q)) (sym (key_passes xs (ends_tables 0 xs) key ∙ ap (passed_from (ends_tables 0 xs) []) is)) (passes_all (ends_tables 0 xs) q [] x rest)
+      key_twins xs (ends_tables 0 xs) key (child_is q to (array_below q to (count_tables xs to) h))
 
   -- and of the lines
   pub twins_there : (lines : List Line) → HasImplied lines q → HaveTwins (named_plain lines) (section_block q)
@@ -148,8 +157,7 @@ module _ (q : Address) where
   pub ahead_again : (lines : List Line) → HasImplied lines q → AreTablesAgain q (named_plain lines) (section_block q)
   ahead_again lines implied = all (section_block q) (all_above q []) (twins_there lines implied)
     where
-      all : (bs : List Named) → EachIs (λ b. (b.kind ≡ a_table) × ((rest : Address) × (q ≡ b.address ++ rest))) bs → HaveTwins (named_plain lines) bs
-          → AreTablesAgain q (named_plain lines) bs
+      all : (bs : List Named) → EachIs (IsTableOver q) bs → HaveTwins (named_plain lines) bs → AreTablesAgain q (named_plain lines) bs
       all [] are twins = tt
       all (b ∷ bs) are twins = (
         (
