@@ -1,5 +1,7 @@
 pub mod AddressTests
+pub mod AheadNamed
 pub mod AheadPlace
+pub mod AheadTables
 pub mod Alike
 pub mod Around
 pub mod AroundLines

@@ -43,7 +43,7 @@ pub record IsPassed (a : Address) (xs : List Named) (m : Named) : Type 0 where
   pub there : (c : Address) (i : ℕ) → m.address ≡ element c i → i < count_tables xs c
 
 -- such a one, or what stands at the end
-abbrev IsOfHeader : (Named → Type 0) → Address → List Named → Named → Type 0
+abbrev pub IsOfHeader : (Named → Type 0) → Address → List Named → Named → Type 0
 IsOfHeader E a xs m = E m ⊎ IsPassed a xs m
 
 -- what stands at the end is at the address or below it

@@ -15,7 +15,7 @@ use Rattle.toml_editor.proofs.written.InsertPlaces.{IsPlace, dotted_place, heade
 abbrev pub IsInserted : Address → List ℕ → Value → Manner → List Line → List Line → Type 0
 IsInserted q name v manner old new = IsPlace q name v manner old new ⊎ IsPutAhead q name v manner old new
 
-pub insert_in_place : (q : Address) (name : List ℕ) (v : Value) (manner : Manner) (lines : List Line) → HasTable lines q
+unfoldable pub insert_in_place : (q : Address) (name : List ℕ) (v : Value) (manner : Manner) (lines : List Line) → HasTable lines q
     → IsInserted q name v manner lines (insert_in q name v manner lines)
 insert_in_place [] name v manner lines there = inl (root_place name v manner lines)
 insert_in_place (s ∷ q) name v manner lines (inl (inl none)) = cc

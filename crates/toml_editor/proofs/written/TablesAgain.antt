@@ -118,7 +118,7 @@ module _ (xs ys : List Named) (keeps : KeepsRules (xs ++ ys)) (t : Named) (role 
 -- ---- the tables of a key
 
 -- the other way round
-each_other : (R : Named → Named → Type 0) (ts xs : List Named) → EachIs (λ t. EachIs (λ e. R e t) xs) ts → EachIs (λ e. EachIs (R e) ts) xs
+pub each_other : (R : Named → Named → Type 0) (ts xs : List Named) → EachIs (λ t. EachIs (λ e. R e t) xs) ts → EachIs (λ e. EachIs (R e) ts) xs
 each_other R ts [] h = tt
 each_other R ts (x ∷ xs) h = (firsts ts h, each_other R ts xs (others ts h))
   where
