@@ -2,8 +2,7 @@
 pub use Rattle.toml_editor.proofs.written.SetNamed.{set_names}
 pub use Rattle.toml_editor.proofs.written.SetKept.{set_rules, set_short, set_data}
 pub use Rattle.toml_editor.proofs.written.SetFormed.{set_forms}
-pub use Rattle.toml_editor.proofs.written.InsertNamed.{insert_names}
-pub use Rattle.toml_editor.proofs.written.InsertKept.{insert_rules, insert_short, insert_data}
+pub use Rattle.toml_editor.proofs.written.InsertKept.{insert_names, insert_rules, insert_short, insert_data}
 pub use Rattle.toml_editor.proofs.written.InsertFormed.{insert_forms}
 pub use Rattle.toml_editor.proofs.written.HeaderLaws.{section_names, element_names, section_is_laid_out, element_is_laid_out, section_units, element_units}
 pub use Rattle.toml_editor.proofs.written.InTurn.{documents_are_ready}
@@ -18,7 +17,7 @@ pub use Rattle.toml_editor.proofs.written.Elsewhere.{set_within_kept, set_elsewh
 pub use Rattle.toml_editor.proofs.written.Untouched.{set_keeps_line, rename_keeps_line, insert_keeps_lines}
 pub use Rattle.toml_editor.proofs.written.Unplaced.{set_bares, insert_bares, remove_bares, rename_bares}
 pub use Rattle.toml_editor.proofs.written.Steps.{good_texts_are_documents, plain_is_written, plain_step, plain_steps, one_written, one_list_written}
-pub use Rattle.toml_editor.proofs.written.UnitsPut.{insert_units}
+pub use Rattle.toml_editor.proofs.written.UnitsInserted.{insert_units}
 pub use Rattle.toml_editor.proofs.written.UnitsRenamed.{rename_units}
 pub use Rattle.toml_editor.proofs.written.UnitsSet.{set_units}
 pub use Rattle.toml_editor.proofs.written.UnitsCarried.{plain_is_carried}

@@ -1,6 +1,9 @@
 -- The units after an `insert`.
-use Rattle.std.proofs.Common.{◌≡◌, ◌∙◌, inl, inr, ℕ, ◌+◌, ◌<◌, Some, None, List, [], ◌∷◌, ◌++◌, length, refl, sym, ap, ap₂, subst, subst₂, append_assoc, append-nil, arith}
+use Rattle.std.proofs.Common.{◌≡◌, ◌∙◌, inl, inr, ℕ, suc, ◌+◌, ◌<◌, false, Some, None, List, [], ◌∷◌, ◌++◌, length, refl, sym, ap, ap₂, subst, subst₂, append_assoc, append-nil, arith}
+use Rattle.std.specs.List.{join_by}
 use Rattle.std.specs.Prelude.{slice_get}
+use Rattle.std.proofs.lemmas.Option.{same_Some}
+use Rattle.toml_scalar.specs.Spelling.{spelled}
 use Rattle.toml_tree.specs.Bare.{fresh}
 use Rattle.toml_tree.specs.Spells.{AreLines, IsExpr, assign_parts, equals_parts, expr_parts, joined, key_parts, piece, value_parts}
 use Rattle.toml_tree.specs.Tree.{Value, Expr, Line}
@@ -8,7 +11,7 @@ use Rattle.toml_tree.proofs.Proved.{parts_join}
 use Rattle.toml_names.specs.model.Addresses.{Address, below, child}
 use Rattle.toml_names.specs.reader.Names.{header_end, own_address}
 use Rattle.toml_names.specs.mentions.Keys.{Key, key_names}
-use Rattle.toml_names.specs.mentions.Mentions.{Named, ends_table, followed, named, named_by, root, section, section_from}
+use Rattle.toml_names.specs.mentions.Mentions.{Named, ends_table, entered, followed, named, named_by, named_from, root, section, section_from}
 use Rattle.toml_units.specs.Units.{TextUnit, line_units, inside, units_from, units}
 use Rattle.toml_units.specs.declared.unit.UnitKind.TheVariants as kinds
 use Rattle.toml_layout.specs.declared.layout.Layout.TheVariants as layouts
@@ -18,9 +21,11 @@ use Rattle.toml_working.specs.FreshKeys.{key_named}
 use Rattle.toml_working.specs.Heading.{header_expr, header_line}
 use Rattle.toml_working.specs.Headers.{names_of}
 use Rattle.toml_working.specs.Inserting.{has_pair, new_assign, new_expr, new_line, line_put}
+use Rattle.toml_working.specs.InsertingInTables.{insert_in}
 use Rattle.toml_working.specs.Manners.{Manner}
+use Rattle.toml_working.specs.Premises.{HasTable}
 use Rattle.toml_working.specs.Standing.{standing_from}
-use Rattle.toml_editor.specs.UnitBlocks.{BeginWithLine, Both, InsertUnits, IsUnitsInserted, OneLine, pair_line_units, pair_text}
+use Rattle.toml_editor.specs.UnitBlocks.{Both, InsertUnits, IsBlockPut, OneLine, pair_line_units, pair_text}
 use Rattle.toml_editor.proofs.written.AheadPlace.{IsPutAhead}
 use Rattle.toml_editor.proofs.written.Alike.{alike_self, alike_pair}
 use Rattle.toml_editor.proofs.written.CountedAlike.{stand_same}
@@ -56,7 +61,7 @@ module _ (at : Address) (first : List ℕ) (rest : Key) (v : Value) where
       ap (λ r. s.ws ++ r)
       (ap joined (append_assoc (names ++ equals) (value_parts v) end ∙ append_assoc names equals (value_parts v ++ end))
       ∙ key_is key (equals ++ (value_parts v ++ end))
-      ∙ ap (λ t. Rattle.std.specs.List.join_by Rattle.toml_scalar.specs.Spelling.spelled (0x2E ∷ []) key ++ around t) (parts_join (value_parts v) end ∙ append-nil (joined (value_parts v))))
+      ∙ ap (λ t. join_by spelled (0x2E ∷ []) key ++ around t) (parts_join (value_parts v) end ∙ append-nil (joined (value_parts v))))
 
   abbrev line_of : List ℕ → Address → ℕ → List TextUnit
   line_of text a base = record { kind = kinds.Line; piece = fresh text; address = Some a; base = Some base } ∷ (inside a v ++ [])
@@ -85,7 +90,7 @@ module _ (at : Address) (first : List ℕ) (rest : Key) (v : Value) where
         (manner.newline ∷ newlines (m ∷ ms)) l.newline.text (line_lines xs l.expr) (some_lines (xs ++ named_by xs n l.expr) (n + 1) m ms)
         (put_first (IsExpr l.expr) s (xs ++ named_by xs n l.expr) (n + 1) (n + 1) (m ∷ ms) manner.newline there)
 
-    put_at : (front back : List Line) (xs : List Named) (n : ℕ) → section (Rattle.toml_names.specs.mentions.Mentions.named_from xs n (front ++ l ∷ [])) ≡ at
+    put_at : (front back : List Line) (xs : List Named) (n : ℕ) → section (named_from xs n (front ++ l ∷ [])) ≡ at
         → Well (units_from xs n (front ++ l ∷ back)) (units_from xs n (front ++ line_put s key v manner l back)) (newlines (front ++ l ∷ back))
         (newlines (front ++ line_put s key v manner l back))
     put_at front back = put_among (IsExpr l.expr) (block s) l back (line_put s key v manner l back) (l ∷ []) (λ xs. section xs ≡ at) (put_line back) front
@@ -95,7 +100,7 @@ module _ (at : Address) (first : List ℕ) (rest : Key) (v : Value) where
 -- behind a header stands the section to which its key leads
 header_section : (n : ℕ) (xs : List Named) (names : Key) (k : List ℕ) (at before : Address) → section_from before (followed n xs (ends_table n) at (k ∷ names)) ≡ header_end xs at (k ∷ names)
 header_section n xs [] k at before = refl
-header_section n xs (m ∷ names) k at before = header_section n xs names m (Rattle.toml_names.specs.mentions.Mentions.entered xs (child at k)) before
+header_section n xs (m ∷ names) k at before = header_section n xs names m (entered xs (child at k)) before
 
 module _ (q : Address) (name : List ℕ) (v : Value) (style ws : List ℕ) (s : Spacing) where
   abbrev header : Expr
@@ -114,9 +119,9 @@ module _ (q : Address) (name : List ℕ) (v : Value) (style ws : List ℕ) (s : 
       by [] none = cc
       by (k ∷ names) is =
           section_append [] xs (named_by xs n header) ∙ ap (λ key. section_from (section xs) (followed n xs (ends_table n) [] key)) is
-          ∙ header_section n xs names k [] (section xs) ∙ ap (header_end xs []) (sym is) ∙ Rattle.std.proofs.lemmas.Option.same_Some _ q leads
+          ∙ header_section n xs names k [] (section xs) ∙ ap (header_end xs []) (sym is) ∙ same_Some _ q leads
 
-  put_both : (Formed : Type 0) (xs : List Named) (n : ℕ) (m : Line) (ms : List Line) → own_address xs header ≡ Some q → has_pair (m ∷ ms) ≡ Rattle.std.proofs.Common.false
+  put_both : (Formed : Type 0) (xs : List Named) (n : ℕ) (m : Line) (ms : List Line) → own_address xs header ≡ Some q → has_pair (m ∷ ms) ≡ false
       → IsPutWell Formed (units_from xs n (m ∷ ms)) both_blocks
       (units_from xs n (header_line One q ws style ∷ new_line s (name ∷ []) v style ∷ m ∷ ms)) (newlines (m ∷ ms)) (style ∷ style ∷ newlines (m ∷ ms))
   put_both Formed xs n m ms leads unkeyed = record {
@@ -133,7 +138,7 @@ module _ (q : Address) (name : List ℕ) (v : Value) (style ws : List ℕ) (s : 
     back_ends = λ a.
         ap (slice_get (newlines (m ∷ ms))) (let e : 0 + a ≡ a = omega arith in e)
         ∙ ap (slice_get (style ∷ style ∷ newlines (m ∷ ms)))
-        (let two = two_lines in let e : Rattle.std.proofs.Common.suc (Rattle.std.proofs.Common.suc a) ≡ 0 + (lines_in both_blocks + a) = omega (arith, two) in e);
+        (let two = two_lines in let e : suc (suc a) ≡ 0 + (lines_in both_blocks + a) = omega (arith, two) in e);
     full = λ formed none. tt;
   }
     where
@@ -192,7 +197,7 @@ module _ (q : Address) (name : List ℕ) (v : Value) (manner : Manner) where
     where
       by : (back : List Line) → ¬ (back ≡ []) → lines ≡ put.front ++ back
           → new ≡ put.front ++ header_line One q put.ws manner.newline ∷ new_line put.spacing (name ∷ []) v manner.newline ∷ back
-          → has_pair back ≡ Rattle.std.proofs.Common.false → IsPutIn q name v manner lines new
+          → has_pair back ≡ false → IsPutIn q name v manner lines new
       by [] some was is unkeyed = absurd (some refl)
       by (m ∷ ms) some was is unkeyed =
           PutBoth put.ws put.spacing put.plain
@@ -203,13 +208,13 @@ module _ (q : Address) (name : List ℕ) (v : Value) (manner : Manner) where
           (λ xs n there. put_both q name v manner.newline put.ws put.spacing (AreLines lines) xs n m ms there unkeyed)
           put.front (root ∷ []) 0 (ap (λ ls. own_address (named ls) (header_expr One q put.ws)) (append-nil put.front) ∙ put.leads)))
 
-  pub puts_lines : (lines : List Line) → Rattle.toml_working.specs.Premises.HasTable lines q
-      → IsPutIn q name v manner lines (Rattle.toml_working.specs.InsertingInTables.insert_in q name v manner lines)
+  pub puts_lines : (lines : List Line) → HasTable lines q
+      → IsPutIn q name v manner lines (insert_in q name v manner lines)
   puts_lines lines there = put_lines lines _ (insert_in_place q name v manner lines there)
 
 pub insert_units : InsertUnits
 insert_units q name v manner lines there = elim (puts_lines q name v manner lines there) [
   | PutLine at first rest same s plain well ↦
-      OneLine at (first ∷ rest) same s plain (subst (λ a. Rattle.toml_editor.specs.UnitBlocks.IsBlockPut (units lines) (pair_line_units (fresh (pair_text s (first ∷ rest) v)) a (length at) v None) (units (Rattle.toml_working.specs.InsertingInTables.insert_in q name v manner lines))) (sym same) well.put)
+      OneLine at (first ∷ rest) same s plain (subst (λ a. IsBlockPut (units lines) (pair_line_units (fresh (pair_text s (first ∷ rest) v)) a (length at) v None) (units (insert_in q name v manner lines))) (sym same) well.put)
   | PutBoth ws s plain well ↦ Both ws s plain well.put
 ]
