@@ -139,7 +139,7 @@ module _ (q : Address) (name : List ℕ) (v : Value) (manner : Manner) (old new 
   stands : AreLines old → standing_from xs n (lines.line_put (lines.spacing_behind manner l) put.key v manner l put.back)
       ≡ line_put put.section_at (lines.spacing_behind manner l) put.key (value_outline v) manner (line_stands xs l) (line_outline l).newline ++ behind
   stands are = subst (λ (key : Key). standing_from xs n (lines.line_put (lines.spacing_behind manner l) key v manner l put.back)
-          ≡ line_put put.section_at (lines.spacing_behind manner l) key (value_outline v) manner (line_stands xs l) (line_outline l).newline ++ behind)
+      ≡ line_put put.section_at (lines.spacing_behind manner l) key (value_outline v) manner (line_stands xs l) (line_outline l).newline ++ behind)
       (sym put.some.2)
       (put_stands put.section_at put.some.0 put.some.1 v manner (lines.spacing_behind manner l) xs n l put.back
       (back_formed put.front put.back l (subst AreLines put.was are)) there)

@@ -115,14 +115,14 @@ module _ (q : Address) (lines : List Line) (some : ¬ (q ≡ [])) (has : HasImpl
     not_element i rest own there =
         let next = front ++ l ∷ [] in
         let one = among_of (λ (s : Standing). implies q s.base s.address)
-            (standing_from (xs ++ named_by xs (length front) l.expr) (length front + 1) back) there in
+        (standing_from (xs ++ named_by xs (length front) l.expr) (length front + 1) back) there in
         let at = line_of one.front back next one.line one.back
-            (ap₂ (λ ys k. standing_from ys k back) (named_next front l) (length-append front (l ∷ [])) ∙ one.is) in
+        (ap₂ (λ ys k. standing_from ys k back) (named_next front l) (length-append front (l ∷ [])) ∙ one.is) in
         let (base, n, more, child) = implied_is q one.line.base one.line.address one.holds in
         let split : lines ≡ (next ++ at.first) ++ at.line ∷ at.rest =
         is ∙ sym (append_assoc front (l ∷ []) back) ∙ ap (λ r. next ++ r) at.lines_are ∙ sym (append_assoc next at.first (at.line ∷ at.rest)) in
         let passed = passes (next ++ at.first) at.rest at.line split n more
-            (ap (λ (s : Standing). s.base) (sym at.is) ∙ base) (ap (λ (s : Standing). s.address) (sym at.is) ∙ child) in
+        (ap (λ (s : Standing). s.base) (sym at.is) ∙ base) (ap (λ (s : Standing). s.address) (sym at.is) ∙ child) in
         let counted = own_counts front l (q ++ Index i ∷ rest) q rest i own refl in
         let grow = counts_grow next at.first q in
         let zero = passed.1 in

@@ -191,7 +191,7 @@ module _ (q : Address) (name : List ℕ) (v : Value) (manner : Manner) (lines : 
   before_alike : AreAlike (named front) (named before)
   before_alike =
       let headless = front_headless lead.comments (lead.head ∷ lead.rest) (named front) (length front)
-          (subst (λ xs. standing_from (named front) (length front) (lines_of xs) ≡ stand_of xs) lead.is back_stands) (comments_headless lead.comments lead.bare) in
+      (subst (λ xs. standing_from (named front) (length front) (lines_of xs) ≡ stand_of xs) lead.is back_stands) (comments_headless lead.comments lead.bare) in
       let same : before ≡ front ++ lines_of lead.comments = map-append (λ (x : Shown). x.0) it.first lead.comments in
       record {
         sections = sym (ap (λ bs. section (named bs)) same ∙ section_stays (lines_of lead.comments) front headless);
