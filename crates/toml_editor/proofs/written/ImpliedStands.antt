@@ -15,7 +15,6 @@ use Rattle.toml_working.specs.Inserting.{new_line}
 use Rattle.toml_working.specs.InsertingInTables.{insert_in}
 use Rattle.toml_working.specs.InsertStanding.{new_standing_in}
 use Rattle.toml_working.specs.Manners.{Manner}
-use Rattle.toml_working.specs.Premises.{implies}
 use Rattle.toml_working.specs.Seeing.{is_sought_line}
 use Rattle.toml_working.specs.Standing.{Standing, standing, standing_from}
 use Rattle.toml_editor.specs.StandingLaws.{ImpliedIsBelow, InsertStandsAhead}
