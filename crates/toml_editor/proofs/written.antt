@@ -1,4 +1,5 @@
 pub mod AddressTests
+pub mod AheadPlace
 pub mod Alike
 pub mod Around
 pub mod AroundLines
@@ -70,6 +71,8 @@ pub mod InsertPlace
 pub mod InsertPlaces
 pub mod InsertSpaced
 pub mod InsertStands
+pub mod InsertedNames
+pub mod InsertedTables
 pub mod Inside
 pub mod KeptApart
 pub mod LastBare
@@ -117,6 +120,7 @@ pub mod StandingHas
 pub mod StandingOrder
 pub mod StandingThere
 pub mod Steps
+pub mod TablesAgain
 pub mod TablesStay
 pub mod Texts
 pub mod Together
@@ -125,6 +129,7 @@ pub mod UnitsCarried
 pub mod UnitsGone
 pub mod UnitsHeaded
 pub mod UnitsIn
+pub mod UnitsInserted
 pub mod UnitsListed
 pub mod UnitsPut
 pub mod UnitsRenamed
@@ -142,6 +147,7 @@ pub mod WayEmptied
 pub mod WayFits
 pub mod WayHeaded
 pub mod WayHeld
+pub mod WayHome
 pub mod WayKeeps
 pub mod WayKept
 pub mod WayLast

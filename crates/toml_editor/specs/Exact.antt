@@ -34,9 +34,9 @@ use Rattle.toml_working.specs.Headers.{innermost}
 use Rattle.toml_working.specs.HeldLines.{HoldsLines, TakesFromValue}
 use Rattle.toml_editor.specs.PlainTexts.{IsPlainOrHeld, IsPlainOn, IsRefusedIn}
 use Rattle.toml_working.specs.Putting.{TreeInserts, manner}
-use Rattle.toml_working.specs.Sections.{TreePutsBelow}
+use Rattle.toml_working.specs.InTables.{TreePutsIn}
 use Rattle.toml_working.specs.RemovingIn.{RemovesLines, TakesElement}
-use Rattle.toml_editor.specs.SpelledEdits.{AreSteps}
+use Rattle.toml_working.specs.Spellings.{AreSteps}
 use Rattle.toml_working.specs.Standing.{AreOrdered, Read, Standing, holds, standing}
 use Rattle.toml_working.specs.Stands.{KeepsRest, KeepsTexts, Stands, TreeSets}
 use Rattle.toml_working.specs.Starting.{NoneIsGone}
@@ -99,10 +99,10 @@ WritesInside profile read p text steps old new done = IsText text → (v : Value
     → (ss : List Standing) → Stands (text_of old.texts.source) read old.slots.items ss → AreOrdered ss → list_any (holds q) ss ≡ true
     → HoldsLines p (PutsHeld old.texts.layout steps made) (text_of old.texts.source) read old.slots.items new.slots.items ss done)
 
--- of one of a name into a table that has a header
+-- of one of a name into another table than the root, which is no value
 abbrev pub WritesBelow : Profile → Read → Address → List ℕ → List (String Global) → Tree → Tree → Type 0
 WritesBelow profile read p text steps old new = IsText text → (v : Value) → IsValueIn profile v text → (q : Address) (last : Step) → p ≡ q ++ last ∷ []
-    → TreePutsBelow q p steps (value_outline v) read old new
+    → TreePutsIn q p steps (value_outline v) read old new
 
 -- the header line of what is to stand at the address, the steps of which are spelled so: whether it is put in
 abbrev pub WritesHeader : Brackets → Read → Address → List (String Global) → Tree → Tree → Bool → Type 0
@@ -116,7 +116,7 @@ pub record WritesRename (read : Read) (p : Address) (to : List ℕ) (old new : T
   pub whole : NoneIsGone new.elements
 
 -- What an edit makes of the working tree, where no element is gone: a `set` puts the value in, if one stands there, and tells whether;
--- an `insert` of a name at the root, or in a table that has a header, puts its line in, a `remove` takes out the line of a value, or makes it
+-- an `insert` of a name at the root, or in a table that is no value, puts its line in, a `remove` takes out the line of a value, or makes it
 -- the empty table right above where that would go with it, a `rename` gives lines the new name, a `section` and an `element` put their header
 -- line in. Where an array or an inline table in the value of a line holds it, an `insert` and a `remove` change that. A `remove` of an element of
 -- an array of tables tells whether it is made.

@@ -33,9 +33,10 @@ pub fn sets()
     ensures forms { SetForms }
 {}
 
-/// After an `insert` of a name at the root, or in a table that has a header, the lines name what they named, and the name's value. They
-/// keep the table rules, where the table had no such name and the value keeps them, and the bound on addresses, where each address in the
-/// value keeps it below the name; they have the data that the edit makes, and are in the forms.
+/// After an `insert` of a name at the root, or in a table that is no value, the lines name what they named, the tables that a dotted
+/// key or a new header names once more, and the name's value. They keep the table rules, where the table had no such name and the value
+/// keeps them, and the bound on addresses, where each address in the value keeps it below the name; they have the data that the edit
+/// makes, and are in the forms.
 pub fn inserts()
     ensures names { InsertNames }
     ensures rules { InsertRules }

@@ -19,7 +19,7 @@ use Rattle.toml_working.specs.declared.lines.Sought.TheVariants as sought
 use Rattle.toml_working.specs.declared.working.Position.{Position}
 use Rattle.toml_working.specs.declared.working.TablePlace.{TablePlace}
 use Rattle.toml_working.specs.declared.working.TablePlace.TheVariants as places
-use Rattle.toml_working.specs.Seeing.{Found, found, is_sought, is_sought_line, heads, is_dotted, heads_below, read_by, line_at, FindsLine, FindsTable, FindsHolder, FindsAny, FindsValue, AreHeaded, IsHeaderPlace, IsSoughtAt, IsTableLine, HoldsNone, LacksSought}
+use Rattle.toml_working.specs.Seeing.{Found, found, is_sought, is_sought_line, heads, is_dotted, heads_below, read_by, line_at, FindsLine, FindsTable, FindsHolder, FindsAny, FindsValue, AreHeaded, IsSoughtAt, IsTableLine, HoldsNone, LacksSought}
 use Rattle.toml_working.specs.Standing.{Standing, Read, StandAlone, lies_below, leads_to, covers_at, covers, is_below, holds, slot_standing, slots_standing}
 use Rattle.toml_layout.specs.Beginnings.{begins}
 use Rattle.toml_working.proofs.AtPlace.{slot_of}
@@ -115,7 +115,7 @@ at_split read slots at s h =
     (before ++ front, back ++ behind, split_within before front s back behind (slot_standing read slot) (slots_standing read slots) all own)
 
 -- so it is of a line that is sought for a table
-abbrev IsOfTable : Sought → Address → Type 0
+abbrev pub IsOfTable : Sought → Address → Type 0
 IsOfTable what p = (f : Found) → is_sought what p f ≡ true → (lies_below p f.address ≡ true) × (leads_to p f.base f.address ≡ false)
 
 sought_alone : (what : Sought) (p : Address) (read : Read) (slots : List Slot) (at : Position) → IsOfTable what p → option_map (is_sought_line what p) (line_at read slots at) ≡ Some true
@@ -135,12 +135,12 @@ heads_is p (Some n) own h = cc
 heads_is p None None h = cc
 heads_is p None (Some a) h = (subst (λ x. begins p x ≡ true) (sym ((same_address-decides a p).0 h)) (begins_self p), refl)
 
-dotted_is : (p : Address) (base : Option ℕ) (own : Option Address) → is_dotted p base own ≡ true → (lies_below p own ≡ true) × (leads_to p base own ≡ false)
+pub dotted_is : (p : Address) (base : Option ℕ) (own : Option Address) → is_dotted p base own ≡ true → (lies_below p own ≡ true) × (leads_to p base own ≡ false)
 dotted_is p None own h = cc
 dotted_is p (Some n) None h = cc
 dotted_is p (Some n) (Some a) h = above_begins p a (and_parts _ (is_above p a) h).1
 
-below_is : (p : Address) (base : Option ℕ) (own : Option Address) → heads_below p base own ≡ true → (lies_below p own ≡ true) × (leads_to p base own ≡ false)
+pub below_is : (p : Address) (base : Option ℕ) (own : Option Address) → heads_below p base own ≡ true → (lies_below p own ≡ true) × (leads_to p base own ≡ false)
 below_is p (Some n) own h = cc
 below_is p None own h = (h, refl)
 
@@ -195,6 +195,10 @@ pub any_or : (b : Bool) → (b || true) ≡ true
 any_or true = refl
 any_or false = refl
 
+pub any_there : {A : Type 0} (f : A → Bool) (front : List A) (x : A) (back : List A) → f x ≡ true → list_any f (front ++ x ∷ back) ≡ true
+any_there f [] x back so = ap (λ b. b || list_any f back) so
+any_there f (y ∷ front) x back so = ap (λ b. f y || b) (any_there f front x back so) ∙ any_or (f y)
+
 -- what is sought stands among the lines
 pub sought_there : (what : Sought) (p : Address) (read : Read) (slots : List Slot) (at : Position) → IsSoughtAt what p read slots at
     → list_any (is_sought_line what p) (slots_standing read slots) ≡ true
@@ -206,8 +210,7 @@ sought_there what p read slots at h = by (line_at read slots at) refl h
     by (Some s) there e =
         let here : is_sought_line what p s ≡ true = cc in
         let (front, back, all) = at_split read slots at s there in
-        ap (list_any (is_sought_line what p)) all ∙ list_any-append (is_sought_line what p) front (s ∷ back)
-        ∙ ap (λ b. list_any (is_sought_line what p) front || (b || list_any (is_sought_line what p) back)) here ∙ any_or (list_any (is_sought_line what p) front)
+        ap (list_any (is_sought_line what p)) all ∙ any_there (is_sought_line what p) front s back here
 
 -- a line whose dotted key makes the table is none of headed lines
 pub never_dotted : (p : Address) (units : List ReadUnit) (slots : List Slot) (slot : ℕ) (r : Option Position) (at : Position)
@@ -216,10 +219,10 @@ never_dotted p units slots slot r at finds is lines headed =
     let found = subst (FindsLine sought.Dotted p units slots slot) is finds lines in
     true≢false (sym (sought_there sought.Dotted p (read_by units lines) slots at found) ∙ headed.no_dotted)
 
--- the place that is found is that of a header
-pub met_in : (o : Option TablePlace) (X : Type 0) → MatchOption o X IsHeaderPlace → IfSome o IsHeaderPlace
-met_in None X h = tt
-met_in (Some place) X h = h
+-- what is found is as it is to be
+pub met_in : {A : Type 0} (P : A → Type 0) (o : Option A) (X : Type 0) → MatchOption o X P → IfSome o P
+met_in P None X h = tt
+met_in P (Some x) X h = h
 
 -- a header stands in some slot
 pub header_somewhere : (p : Address) (read : Read) (slots : List Slot) (n : ℕ) → length slots ≤ n → AreHeaded p (slots_standing read slots)

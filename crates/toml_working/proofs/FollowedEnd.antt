@@ -29,6 +29,7 @@ use Rattle.toml_working.specs.Putting.{PutsSlots}
 use Rattle.toml_working.specs.PuttingHeaders.{HasNoBytesAt, IsEnd, PutsHeader, PutsLast}
 use Rattle.toml_working.specs.Standing.{Standing, Read, body_outline, line_standing, slots_standing}
 use Rattle.toml_working.specs.Stands.{KeepsRest, KeepsTexts, Stands}
+use Rattle.toml_working.proofs.Alone.{any_there}
 use Rattle.toml_working.proofs.AtPlace.{slot_of}
 use Rattle.toml_working.proofs.WentUp.{both_no, last_none, last_split}
 use Rattle.toml_working.proofs.HeaderPut.{last_put}
@@ -55,14 +56,6 @@ last_filled s (x ∷ y ∷ front) = last_filled s (y ∷ front)
 none_at_all : (ss : List Standing) → list_any (λ (s : Standing). true) ss ≡ false → ss ≡ []
 none_at_all [] h = refl
 none_at_all (s ∷ ss) h = absurd (true≢false h)
-
-any_there : (f : Standing → Bool) (front : List Standing) (s : Standing) (between : List Standing) → f s ≡ true → list_any f (front ++ s ∷ between) ≡ true
-any_there f [] s between so = ap (λ b. b || list_any f between) so
-any_there f (x ∷ front) s between so = ap (λ b. f x || b) (any_there f front s between so) ∙ or-true (f x)
-  where
-    or-true : (b : Bool) → (b || true) ≡ true
-    or-true true = refl
-    or-true false = refl
 
 -- ---- the last section, and what stands above it
 

@@ -13,6 +13,8 @@ mod Commented
 mod Put
 mod PutRoot
 mod Sectioned
+mod LastInside
+mod DottedPut
 mod HeaderSteps
 mod NoBytes
 mod NextFound
@@ -21,7 +23,9 @@ mod WentUp
 mod Followed
 mod FollowedEnd
 mod HeaderAdded
+mod PutAhead
 mod Alone
+mod TablesFound
 mod Turned
 mod Changed
 mod SetAway

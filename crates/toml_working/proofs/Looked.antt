@@ -2,7 +2,6 @@
 use Rattle.std.proofs.Common.{◌≡◌, ◌∙◌, ℕ, Bool, true, false, ◌&&◌, cond, List, [], ◌∷◌, Option, Some, None, refl, ap, ap₂, sym}
 use Rattle.std.specs.Global.{Box}
 use Rattle.std.specs.Prelude.{slice_get}
-use Rattle.toml_scalar.specs.Spelling.{spelled}
 use Rattle.toml_working.specs.declared.lines.Body.{Body}
 use Rattle.toml_working.specs.declared.lines.Body.TheVariants as bodies
 use Rattle.toml_working.specs.declared.lines.Kept.{Kept}

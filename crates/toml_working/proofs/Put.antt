@@ -22,7 +22,7 @@ use Rattle.toml_working.specs.OpeningLines.{EndsIn, OpensBody, OpensToEndIn}
 use Rattle.toml_layout.specs.OpenOutlines.{line}
 use Rattle.toml_layout.specs.Outlines.{LineOutline}
 use Rattle.toml_working.specs.Placing.{lines_before, lines_from}
-use Rattle.toml_working.specs.Putting.{Becomes, EndsBefore, EndsSlot, EndsSlots, IsLastAt, LineIsLast, PutsSlot, PutsSlots, SlotIsLast, TellsLast, ended_before, newline_behind}
+use Rattle.toml_working.specs.Putting.{Becomes, EndsBefore, EndsSlot, EndsSlots, IsLastAt, LineIsLast, PutsSlot, PutsSlots, PutsThere, SlotIsLast, TellsLast, ended_before, newline_behind}
 use Rattle.toml_working.specs.Seeing.{line_at}
 use Rattle.toml_working.specs.Standing.{Standing, Read, body_outline, line_standing, slot_standing, slots_standing}
 use Rattle.toml_working.specs.Stands.{BodyKept, OpensSlot, SlotKept}
@@ -171,6 +171,53 @@ at_put read at l old now slot new low is put puts within text kept kept_line =
 
 pub no_slot_put : (read : Read) (at : Position) (l : Line) (old now : List Slot) → length old ≤ at.slot → PutsSlots read at l old now
 no_slot_put read at l old now past within = absurd (omega (arith, past, within))
+
+-- the lines before the place stay, and from it on the new one is the first
+module _ (read : Read) (i : ℕ) (t : Standing) where
+  before_put : (old : List Slot) (k : ℕ) (slot new : Slot) → slice_get old k ≡ Some slot → i ≤ length (slot_standing read slot)
+      → slot_standing read new ≡ take i (slot_standing read slot) ++ t ∷ drop i (slot_standing read slot)
+      → lines_before read (set old k new) k i ≡ lines_before read old k i
+  before_put [] k slot new there low is = cc
+  before_put (x ∷ xs) zero slot new there low is =
+      let e : slot ≡ x = cc in
+      ap (take i) is ∙ take_front i (slot_standing read slot) (t ∷ drop i (slot_standing read slot)) low ∙ ap (λ y. take i (slot_standing read y)) e
+    where
+      take_front : (n : ℕ) (ss back : List Standing) → n ≤ length ss → take n (take n ss ++ back) ≡ take n ss
+      take_front zero ss back low = refl
+      take_front (suc n) [] back low = absurd (omega (arith, low))
+      take_front (suc n) (s ∷ ss) back low = ap (λ r. s ∷ r) (take_front n ss back (omega (arith, low)))
+  before_put (x ∷ xs) (suc k) slot new there low is = ap (λ r. slot_standing read x ++ r) (before_put xs k slot new there low is)
+
+  from_put : (old : List Slot) (k : ℕ) (slot new : Slot) → slice_get old k ≡ Some slot → i ≤ length (slot_standing read slot)
+      → slot_standing read new ≡ take i (slot_standing read slot) ++ t ∷ drop i (slot_standing read slot)
+      → lines_from read (set old k new) k i ≡ t ∷ lines_from read old k i
+  from_put [] k slot new there low is = cc
+  from_put (x ∷ xs) zero slot new there low is =
+      let e : slot ≡ x = cc in
+      ap (λ r. r ++ slots_standing read xs) (ap (drop i) is ∙ drop_front i (slot_standing read slot) (t ∷ drop i (slot_standing read slot)) low)
+      ∙ ap (λ y. (t ∷ drop i (slot_standing read y)) ++ slots_standing read xs) e
+    where
+      drop_front : (n : ℕ) (ss back : List Standing) → n ≤ length ss → drop n (take n ss ++ back) ≡ back
+      drop_front zero ss back low = refl
+      drop_front (suc n) [] back low = absurd (omega (arith, low))
+      drop_front (suc n) (s ∷ ss) back low = drop_front n ss back (omega (arith, low))
+  from_put (x ∷ xs) (suc k) slot new there low is = from_put xs k slot new there low is
+
+pub at_put_there : (read : Read) (at : Position) (l : Line) (old now : List Slot) (slot new : Slot) → at.slot < length old → slot ≡ get_or old at.slot slot
+    → now ≡ set old at.slot new → PutsSlot read at.index l slot new → PutsThere read at l old now
+at_put_there read at l old now slot new low is put puts inside text kept kept_line =
+    let (there, kept_now, stands) = slot_replaced (SlotKept text read) at.slot old now slot new low is put kept
+    (λ k. puts text k kept_line) in
+    let same : inside.slot ≡ slot = same_Some inside.slot slot (sym inside.there ∙ there) in
+    let within : at.index ≤ length (slot_standing read slot) = subst (λ x. at.index ≤ length (slot_standing read x)) same inside.low in (
+      subst (λ n. at.slot < n) (sym (ap length put ∙ length-set old at.slot new)) low,
+      ap (λ xs. lines_before read xs at.slot at.index) put ∙ before_put read at.index (line_standing read l) old at.slot slot new there within stands,
+      ap (λ xs. lines_from read xs at.slot at.index) put ∙ from_put read at.index (line_standing read l) old at.slot slot new there within stands,
+    )
+
+pub no_slot_there : (read : Read) (at : Position) (l : Line) (old now : List Slot) → length old ≤ at.slot → PutsThere read at l old now
+no_slot_there read at l old now past inside =
+    let within = slice_get_within old at.slot inside.slot inside.there in absurd (omega (arith, past, within))
 
 -- ---- a line behind another
 

@@ -15,6 +15,7 @@ use Rattle.toml_units.specs.declared.unit.Unit.{Unit as ReadUnit}
 use Rattle.toml_layout.specs.Outlines.{ValueOutline}
 use Rattle.toml_layout.specs.declared.texts.Texts.{Texts}
 use Rattle.toml_working.specs.declared.lines.Slot.{Slot}
+use Rattle.toml_working.specs.declared.lines.Sought.{Sought}
 use Rattle.toml_working.specs.declared.lines.Sought.TheVariants as sought
 use Rattle.toml_working.specs.declared.working.Position.{Position}
 use Rattle.toml_working.specs.FirstKeys.{spacing_put}
@@ -26,7 +27,7 @@ use Rattle.toml_working.specs.Sections.{EndsSection, FindsSectionEnd, InsertsBel
 use Rattle.toml_working.specs.Seeing.{AreHeaded, IsSoughtAt, found, is_sought_line, line_at}
 use Rattle.toml_working.specs.Standing.{Standing, Read, AreOrdered, StandAlone, holds, slots_standing}
 use Rattle.toml_working.specs.Stands.{Stands}
-use Rattle.toml_working.proofs.Alone.{below_pairs, heads_is, sought_there}
+use Rattle.toml_working.proofs.Alone.{IsOfTable, below_pairs, sought_there}
 use Rattle.toml_working.proofs.Pairwise.{pairs_of_all}
 use Rattle.toml_working.proofs.RemovedOne.{any_split}
 use Rattle.toml_working.proofs.AtPlace.{slot_of}
@@ -41,14 +42,19 @@ end_of_guess q units slots start from at ends there lines =
 
 -- ---- the line is put in
 
+-- the line that is found at a place
+pub sought_here : (what : Sought) (q : Address) (read : Read) (slots : List Slot) (at : Position) → IsSoughtAt what q read slots at
+    → (s : Standing) × (line_at read slots at ≡ Some s) × (is_sought_line what q s ≡ true)
+sought_here what q read slots at found = by (line_at read slots at) refl found
+  where
+    by : (o : Option Standing) → line_at read slots at ≡ o → option_map (is_sought_line what q) o ≡ Some true
+        → (s : Standing) × (line_at read slots at ≡ Some s) × (is_sought_line what q s ≡ true)
+    by None there e = absurd (none-some true e)
+    by (Some s) there e = (s, there, same_Some (is_sought_line what q s) true e)
+
 pub header_here : (q : Address) (read : Read) (slots : List Slot) (at : Position) → IsSoughtAt sought.Header q read slots at
     → (h : Standing) × (line_at read slots at ≡ Some h) × (is_sought_line sought.Header q h ≡ true)
-header_here q read slots at found = by (line_at read slots at) refl found
-  where
-    by : (o : Option Standing) → line_at read slots at ≡ o → option_map (is_sought_line sought.Header q) o ≡ Some true
-        → (h : Standing) × (line_at read slots at ≡ Some h) × (is_sought_line sought.Header q h ≡ true)
-    by None there e = absurd (none-some true e)
-    by (Some s) there e = (s, there, same_Some (is_sought_line sought.Header q s) true e)
+header_here = sought_here sought.Header
 
 module _ (q own : Address) (base : ℕ) (steps : List (String Global)) (v : ValueOutline) (manner : Manner) (texts : Texts) (read : Read)
     (header next : Position) (old now : List Slot) (slot : next.slot ≡ header.slot) (index : header.index + 1 < 2 ^ 64 → next.index ≡ header.index + 1)
@@ -123,7 +129,7 @@ module _ (q own : Address) (base : ℕ) (steps : List (String Global)) (v : Valu
         },
       )
 
-front_is : (q r : Address) (x y : Step) → q ++ x ∷ [] ≡ r ++ y ∷ [] → q ≡ r
+pub front_is : (q r : Address) (x y : Step) → q ++ x ∷ [] ≡ r ++ y ∷ [] → q ≡ r
 front_is [] [] x y e = refl
 front_is [] (s ∷ []) x y e = cc
 front_is [] (s ∷ t ∷ r) x y e = cc
@@ -153,15 +159,17 @@ puts_below q above last own base steps v manner texts read header next behind ol
     by (Some end) found at base_is = puts_last q own base steps v manner texts read header next old now slot index base_is finds end found
         (subst (λ b. PutsBehind own base steps v manner texts read b old now) at puts)
 
--- ---- no line holds a table that has a header
+-- ---- no line holds a table that a line makes, or that stands above a header
 
-headed_holds_none : (q : Address) (ss : List Standing) → StandAlone ss → AreHeaded q ss → list_any (holds q) ss ≡ false
-headed_holds_none q ss alone headed =
-    let (front, h, back, split, heads_it) = any_split (is_sought_line sought.Header q) ss headed.header in
-    let facts = heads_is q h.base h.address heads_it in
-    ap (list_any (holds q)) split ∙ below_pairs q front h back (pairs_of_all _ _ (subst StandAlone split alone)) facts.0 facts.1
+-- where such a line stands, none holds the table
+made_holds_none : (what : Sought) (q : Address) (ss : List Standing) → IsOfTable what q → StandAlone ss → list_any (is_sought_line what q) ss ≡ true
+    → list_any (holds q) ss ≡ false
+made_holds_none what q ss is alone there =
+    let (front, s, back, split, here) = any_split (is_sought_line what q) ss there in
+    let facts = is (found s) here in
+    ap (list_any (holds q)) split ∙ below_pairs q front s back (pairs_of_all _ _ (subst StandAlone split alone)) facts.0 facts.1
 
-pub never_held : (q : Address) (text : List ℕ) (read : Read) (slots : List Slot) (place : Position) → IsSoughtAt sought.Holder q read slots place
-    → (ss : List Standing) → Stands text read slots ss → AreOrdered ss → AreHeaded q ss → ⊥
-never_held q text read slots place found ss stands ordered headed =
-    true≢false (sym (sought_there sought.Holder q read slots place found) ∙ ap (list_any (holds q)) stands.are ∙ headed_holds_none q ss ordered.alone headed)
+pub never_held : (what : Sought) (q : Address) (text : List ℕ) (read : Read) (slots : List Slot) (place : Position) → IsOfTable what q → IsSoughtAt sought.Holder q read slots place
+    → (ss : List Standing) → Stands text read slots ss → AreOrdered ss → list_any (is_sought_line what q) ss ≡ true → ⊥
+never_held what q text read slots place is held ss stands ordered there =
+    true≢false (sym (sought_there sought.Holder q read slots place held) ∙ ap (list_any (holds q)) stands.are ∙ made_holds_none what q ss is ordered.alone there)

@@ -1,4 +1,4 @@
--- `insert` of a name at the root, or in a table that has a header: a new line.
+-- `insert` of a name at the root, or in a table that has a header: a new line. The line of any key.
 use Rattle.std.specs.Prelude.{ℕ, Bool, true, false, ◌&&◌, not, is_some, List, [], ◌∷◌, ◌++◌, if◌then◌else◌, None}
 use Rattle.toml_tree.specs.Bare.{fresh}
 use Rattle.toml_tree.specs.Tree.{Assign, Value, Expr, BlankLine, KeyValLine, TableLine, ArrayTableLine, Line}

@@ -49,7 +49,7 @@ abbrev pub insert_among : Address → List ℕ → Value → Manner → List Lin
 insert_among q name v manner before [] = []
 insert_among q name v manner before (l ∷ ls) =
     if is_maker_of q before l then
-        put_last (has_more manner.layout (section (named before)) q) (spacing_behind manner) (key_behind (length (section (named before))) (child q name)) v manner (l ∷ ls)
+    put_last (has_more manner.layout (section (named before)) q) (spacing_behind manner) (key_behind (length (section (named before))) (child q name)) v manner (l ∷ ls)
     else l ∷ insert_among q name v manner (before ++ l ∷ []) ls
 
 -- ---- a table that longer headers imply
@@ -65,7 +65,7 @@ abbrev pub insert_ahead : Address → List ℕ → Value → Manner → List Sta
 insert_ahead q name v manner front [] = []
 insert_ahead q name v manner front ((l, s) ∷ xs) =
     if lead_below manner.layout q (s ∷ map (λ (x : Shown). x.1) xs) then
-        section_ahead q name v manner front (s ∷ map (λ (x : Shown). x.1) xs) ++ l ∷ map (λ (x : Shown). x.0) xs
+    section_ahead q name v manner front (s ∷ map (λ (x : Shown). x.1) xs) ++ l ∷ map (λ (x : Shown). x.0) xs
     else l ∷ insert_ahead q name v manner (front ++ s ∷ []) xs
 
 -- ---- in any table

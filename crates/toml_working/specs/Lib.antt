@@ -21,10 +21,12 @@ pub mod Turning
 pub mod Becoming
 pub mod Seeing
 pub mod Placing
+pub mod TablePlaces
 pub mod Putting
 pub mod Sections
 pub mod Spellings
 pub mod DottedTables
+pub mod TableEnds
 pub mod Headers
 pub mod NextHeaders
 pub mod PuttingHeaders

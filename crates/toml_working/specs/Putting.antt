@@ -18,6 +18,7 @@ use Rattle.toml_working.specs.Becoming.{LineBecomes}
 use Rattle.toml_working.specs.FirstKeys.{spacing_put}
 use Rattle.toml_working.specs.Following.{may_write_blank}
 use Rattle.toml_working.specs.InsertStanding.{AreRooted, end_in, has_pair, insert_first, insert_standing, line_put, new_outline}
+use Rattle.toml_working.specs.LookingUp.{IsInSlot}
 use Rattle.toml_working.specs.Manners.{Manner}
 use Rattle.toml_working.specs.OpeningLines.{HasOutline}
 use Rattle.toml_layout.specs.OpenOutlines.{leaf_text}
@@ -92,6 +93,12 @@ abbrev pub PutsSlots : Read → Position → Line → List Slot → List Slot �
 PutsSlots read at line old now = at.slot < length old → (text : List ℕ) → EachIs (SlotKept text read) old → BodyKept text read line.body
     → EachIs (SlotKept text read) now
     × (slots_standing read now ≡ lines_before read old at.slot at.index ++ line_standing read line ∷ lines_from read old at.slot at.index)
+
+-- where the place is that of a line of its slot, or right behind them, the new line is then the first one from there on, and those before stay
+abbrev pub PutsThere : Read → Position → Line → List Slot → List Slot → Type 0
+PutsThere read at line old now = IsInSlot read old at → (text : List ℕ) → EachIs (SlotKept text read) old → BodyKept text read line.body
+    → (at.slot < length now) × (lines_before read now at.slot at.index ≡ lines_before read old at.slot at.index)
+    × (lines_from read now at.slot at.index ≡ line_standing read line ∷ lines_from read old at.slot at.index)
 
 -- the address of a name at the root is not this one
 abbrev pub IsElsewhere : Address → Type 0

@@ -5,11 +5,13 @@ ghost use Rattle.toml_working.specs.Putting.{TreePutsBehind};
 ghost use Rattle.toml_working.specs.Sections.{FindsSectionEnd, IsEndFrom, IsOfSectionAt};
 ghost use Rattle.toml_working.specs.Starting.{read_of};
 ghost use Rattle.toml_working.specs.Stands.{KeepsRest};
+ghost use Rattle.toml_working.specs.TableEnds.{EndsTable, FindsLastInside, FindsTableEnd, IsInsideFrom, PassesInside};
 
 use crate::inserting::Insertion;
 use crate::steps::begins;
 use crate::working::{Before, Position, Tree};
 use std::alloc::AllocError;
+use toml_layout::Layout;
 use toml_names::{Address, Step};
 
 impl<'x> Tree<'x> {
@@ -58,23 +60,111 @@ impl<'x> Tree<'x> {
         }
     }
 
-    /// The line from which the last one strictly below an address is looked for, in the section of a table: the guess, where its line
-    /// stands so there, else the other.
-    pub(crate) fn start_below(
+    /// The line behind which a new one goes of a table that the dotted key of a line makes: the last one with a key and a value in the
+    /// section; by layout `Follow` the last one of those strictly below the table.
+    pub(crate) fn table_end(
         &self,
         before: Before<'_, 'x>,
         line: Position,
-        table: &[Step],
-        address: &Address,
-    ) -> Position {
-        let guess = self.section_end;
-        if self.is_of_section(before, guess, table)
-            && self.is_strictly_below(before, guess, address)
-        {
-            guess
-        } else {
-            line
+        section: &[Step],
+        table: &Address,
+    ) -> Position
+        ensures { let layout = self.now.texts.layout in
+            EndsTable layout section.now table.now before.entry.units.now self.now.slots.items line result }
+    {
+        let last = match self.texts.layout {
+            Layout::Plain => self.last_of_section(before, line, section),
+            Layout::Follow => self.last_of_table(before, line, section, table),
+        };
+        last.unwrap_or(line)
+    }
+
+    /// The last line with a key and a value strictly below a table, from a place in its section on, before the next header. The guess
+    /// is taken where its line stands in that section.
+    fn last_of_table(
+        &self,
+        before: Before<'_, 'x>,
+        from: Position,
+        section: &[Step],
+        table: &Address,
+    ) -> Option<Position>
+        ensures { FindsTableEnd section.now table.now before.entry.units.now self.now.slots.items from result }
+    {
+        match self.guessed_inside(before, section, table) {
+            Some(found) => Some(found),
+            None => self.last_inside(before, from, table),
         }
+    }
+
+    /// The last line with a key and a value strictly below a table, from the guess on, where the guess and that line stand in the section: where
+    /// the guess does, that line does too, and the second look is for the proof.
+    fn guessed_inside(
+        &self,
+        before: Before<'_, 'x>,
+        section: &[Step],
+        table: &Address,
+    ) -> Option<Position>
+        ensures last { let start = self.now.section_end in
+            IfSome result (IsInsideFrom table.now before.entry.units.now self.now.slots.items start) }
+        ensures there { IfSome result (IsOfSectionAt section.now before.entry.units.now self.now.slots.items) }
+    {
+        if !self.is_of_section(before, self.section_end, section) {
+            return None;
+        }
+        match self.last_inside(before, self.section_end, table) {
+            Some(found) if self.is_of_section(before, found, section) => Some(found),
+            _ => None,
+        }
+    }
+
+    /// The last line with a key and a value strictly below the address, from the place on, before the next header line.
+    fn last_inside(
+        &self,
+        before: Before<'_, 'x>,
+        from: Position,
+        address: &Address,
+    ) -> Option<Position>
+        ensures { FindsLastInside address.now before.entry.units.now self.now.slots.items from result }
+    {
+        let mut last = None;
+        let mut skip = from.index;
+        for slot in from.slot..self.slots.len() {
+            let (found, ends) = self.inside_in(before, slot, skip, address, last);
+            if ends {
+                return found;
+            }
+            last = found;
+            skip = 0;
+        }
+        last
+    }
+
+    /// The last line of a slot with a key and a value strictly below the address, before a header line of it, or the last one before the
+    /// slot; and whether there is a header line. So many lines are passed over.
+    fn inside_in(
+        &self,
+        before: Before<'_, 'x>,
+        slot: usize,
+        skip: usize,
+        address: &Address,
+        last: Option<Position>,
+    ) -> (Option<Position>, bool)
+        ensures { PassesInside address.now before.entry.units.now self.now.slots.items slot skip last result.1 result.0 }
+    {
+        let Some(lines) = self.slots.get(slot) else {
+            return (last, true);
+        };
+        let mut found = last;
+        for index in skip..lines.count() {
+            let Some(line) = lines.seen(before.units, index) else {
+                return (found, false);
+            };
+            if line.is_header() {
+                return (found, true);
+            }
+            found = line.inside_at(address, Position { slot, index }, found);
+        }
+        (found, false)
     }
 
     /// Puts a line in behind another of the section of a table, whose address has `base` steps.

@@ -22,7 +22,7 @@ use toml_text::Span;
 
 /// A line that is sought above a place.
 #[derive(Clone, Copy)]
-enum Landmark<'a> {
+pub(crate) enum Landmark<'a> {
     /// A line at the address, or below it.
     Below(&'a Address),
     /// A header line.
@@ -137,7 +137,7 @@ impl<'x> Tree<'x> {
     }
 
     /// The last line before a place that is sought.
-    fn landmark(
+    pub(crate) fn landmark(
         &self,
         before: Before<'_, 'x>,
         place: Position,

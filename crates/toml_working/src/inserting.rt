@@ -3,18 +3,19 @@ ghost use Rattle.std.specs.Prelude.{◌≡◌, ◌++◌, ◌<◌, ◌∷◌, IfO
 ghost use Rattle.toml_layout.specs.KnownLines.{lines_known};
 ghost use Rattle.toml_layout.specs.OpenOutlines.{leaf_text, value};
 ghost use Rattle.toml_working.specs.Putting.{EndsOne, EndsSlot, EndsSlots, IsElsewhere, IsPairLine};
-ghost use Rattle.toml_working.specs.Putting.{PutsSlot, PutsSlots, TreeEndsBefore, TreeInserts, TreeInsertsFirst, TreePutsBehind};
+ghost use Rattle.toml_working.specs.Putting.{PutsSlot, PutsSlots, PutsThere, TreeEndsBefore, TreeInserts, TreeInsertsFirst, TreePutsBehind};
 ghost use Rattle.toml_working.specs.HeldLines.{PutsInValue};
-ghost use Rattle.toml_working.specs.ImpliedTables.{PutsAhead};
-ghost use Rattle.toml_working.specs.Sections.{TreeInsertsBelow, TreePutsBelow};
+ghost use Rattle.toml_working.specs.DottedTables.{TreePutsDotted};
+ghost use Rattle.toml_working.specs.ImpliedTables.{TreePutsAhead};
+ghost use Rattle.toml_working.specs.InTables.{TreePutsIn};
+ghost use Rattle.toml_working.specs.Sections.{TreeInsertsBelow};
 ghost use Rattle.toml_working.specs.Starting.{read_of};
 ghost use Rattle.toml_working.specs.Stands.{KeepsRest};
 
 use crate::lines::{Line, Slot};
-use crate::sections::NewHeader;
 use crate::working::{Before, Position, TablePlace, Tree};
 use std::alloc::{AllocError, Global};
-use toml_layout::{Brackets, Expr, Inside, KeyVal, KnownLine, Layout, Leaf, Texts, Value};
+use toml_layout::{Expr, Inside, KeyVal, KnownLine, Layout, Leaf, Texts, Value};
 use toml_names::{Address, Place, Step};
 use toml_units::Unit;
 
@@ -22,7 +23,7 @@ use toml_units::Unit;
 #[derive(Drop)]
 pub(crate) struct Insertion<'a, 'x> {
     at: &'a Address,
-    spelled: &'x [String],
+    pub(crate) spelled: &'x [String],
     new: Value<'x>,
 }
 
@@ -42,7 +43,7 @@ impl<'x> Tree<'x> {
         ensures root { OnOk result (TreeInserts at.now spelled.now (value new.entry) (read_of before.entry) self.old self.new) }
         ensures value { let read = read_of before.entry in
             IfOk result (PutsInValue parent.now at.now spelled.now new.entry read self.old self.new) }
-        ensures below { OnOk result (TreePutsBelow parent.now at.now spelled.now (value new.entry) (read_of before.entry) self.old self.new) }
+        ensures below { OnOk result (TreePutsIn parent.now at.now spelled.now (value new.entry) (read_of before.entry) self.old self.new) }
     {
         let insertion = Insertion { at, spelled, new };
         if is_at_root(at) {
@@ -64,7 +65,7 @@ impl<'x> Tree<'x> {
         ensures value { let it = insertion.entry in
             IfOk result (PutsInValue parent.now it.at.now it.spelled.now it.new (read_of before.entry) self.old self.new) }
         ensures below { let it = insertion.entry in
-            OnOk result (TreePutsBelow parent.now it.at.now it.spelled.now (value it.new) (read_of before.entry) self.old self.new) }
+            OnOk result (TreePutsIn parent.now it.at.now it.spelled.now (value it.new) (read_of before.entry) self.old self.new) }
     {
         match self.value_line(before, named, parent) {
             Some(place) => {
@@ -86,6 +87,10 @@ impl<'x> Tree<'x> {
         ensures rest { OnOk result (KeepsRest self.old self.new) }
         ensures below { let it = insertion.entry in
             OnOk result (TreeInsertsBelow parent.now it.at.now it.spelled.now (value it.new) (read_of before.entry) self.old self.new) }
+        ensures dotted { let it = insertion.entry in
+            OnOk result (TreePutsDotted parent.now it.at.now it.spelled.now (value it.new) (read_of before.entry) self.old self.new) }
+        ensures implied { let it = insertion.entry in
+            OnOk result (TreePutsAhead parent.now it.at.now it.spelled.now (value it.new) (read_of before.entry) self.old self.new) }
     {
         let Some((last, above)) = insertion.at.steps().split_last() else {
             return Ok(false);
@@ -108,24 +113,6 @@ impl<'x> Tree<'x> {
                 self.insert_before(before, header, parent, insertion)
             }
             None => Ok(false),
-        }
-    }
-
-    /// The line behind which a new one goes of a table that a line's dotted key makes: the last one with a key and a value in
-    /// the section; by layout `Follow` the last one of the table there.
-    fn table_end(
-        &self,
-        before: Before<'_, 'x>,
-        line: Position,
-        section: &[Step],
-        table: &Address,
-    ) -> Position {
-        match self.texts.layout {
-            Layout::Plain => self.last_of_section(before, line, section).unwrap_or(line),
-            Layout::Follow => {
-                let from = self.start_below(before, line, section, table);
-                self.last_below(before, from, table)
-            }
         }
     }
 
@@ -203,52 +190,8 @@ impl<'x> Tree<'x> {
         Ok(Leaf::EMPTY)
     }
 
-    /// Puts a header line for the parent, and a line behind it, in before another.
-    fn insert_before(
-        &mut self,
-        before: Before<'_, 'x>,
-        next: Position,
-        parent: &Address,
-        insertion: Insertion<'_, 'x>,
-    ) -> Result<bool, AllocError>
-        ensures rest { OnOk result (KeepsRest self.old self.new) }
-        ensures put { let it = insertion.entry in
-            OnOk result (PutsAhead parent.now it.at.now it.spelled.now (value it.new) (read_of before.entry) next self.old self.new) }
-    {
-        let header = NewHeader {
-            at: parent,
-            brackets: Brackets::One,
-            spelled: insertion.spelled,
-        };
-        let line = self.pair_line(parent.steps().len(), insertion, self.style)?;
-        if let Layout::Follow = self.texts.layout {
-            return self.put_both(before, next, header, line);
-        }
-        Ok(self.put(before, next, line)? && self.put_header(before, next, header, Leaf::EMPTY)?)
-    }
-
-    /// Puts both lines in by layout `Follow`: before the comment lines above the other line, and as that one begins.
-    fn put_both(
-        &mut self,
-        before: Before<'_, 'x>,
-        next: Position,
-        header: NewHeader<'_, 'x>,
-        line: Line<'x>,
-    ) -> Result<bool, AllocError>
-        ensures { OnOk result (KeepsRest self.old self.new) }
-    {
-        let at = self.above_comments(before, next);
-        let ws = self.ws_at(next);
-        let (own, equals) = self.beginning_below(before, at, ws)?;
-        let line = line.beginning_as(own, equals);
-        let head = header
-            .line(self.alloc(), self.style)?
-            .beginning_as(ws, None);
-        Ok(self.put(before, at, line)? && self.put(before, at, head)?)
-    }
-
     /// A line with the key of the steps below its table, whose address has `base` steps.
-    fn pair_line(
+    pub(crate) fn pair_line(
         &self,
         base: usize,
         insertion: Insertion<'_, 'x>,
@@ -278,6 +221,9 @@ impl<'x> Tree<'x> {
         ensures put { let old = self.old.slots.items in
             let now = self.new.slots.items in
             OnOk result (PutsSlots (read_of before.entry) at line.entry old now) }
+        ensures there { let old = self.old.slots.items in
+            let now = self.new.slots.items in
+            OnOk result (PutsThere (read_of before.entry) at line.entry old now) }
         ensures done { IfOk result (λ done. at.slot < length self.old.slots.items → done ≡ true) }
     {
         self.guesses.put(self.texts.alloc, at.slot, &line)?;
@@ -302,6 +248,7 @@ fn put_at<'t>(
     line: Line<'t>,
 ) -> Result<bool, AllocError>
     ensures put { OnOk result (PutsSlots (read_of before.entry) at line.entry slots.old.items slots.new.items) }
+    ensures there { OnOk result (PutsThere (read_of before.entry) at line.entry slots.old.items slots.new.items) }
     ensures done { IfOk result (λ done. at.slot < length slots.old.items → done ≡ true) }
 {
     match slots.get_mut(at.slot) {

@@ -8,6 +8,7 @@ mod emptying;
 mod flat;
 mod guessing;
 mod headers;
+mod implied;
 mod inserting;
 mod inside;
 pub mod laws;

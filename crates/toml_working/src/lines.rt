@@ -12,6 +12,7 @@ ghost use Rattle.toml_working.specs.Putting.{LineIsLast, SlotIsLast};
 ghost use Rattle.toml_working.specs.PuttingHeaders.{LineHasNoBytes, SlotHasNoBytes};
 ghost use Rattle.toml_working.specs.Stands.{OpensSlot, kept_line};
 ghost use Rattle.toml_working.specs.Standing.{Read, is_below, lies_below, slot_standing};
+ghost use Rattle.toml_working.specs.TablePlaces.{FindsFirstIn};
 
 use std::alloc::{AllocError, Global};
 use toml_layout::{Blank, Expr, KnownLine, Leaf, OpenLine, Texts};
@@ -257,6 +258,7 @@ impl<'t> Slot<'t> {
     /// The index of its first line that is what is sought.
     pub(crate) fn find<'a>(&'a self, units: &'a [Unit], what: Sought, at: &Address) -> Option<usize>
         ensures finds { FindsIn what at.now units.now self.now result }
+        ensures first { FindsFirstIn what at.now units.now self.now result }
         ensures low { IfSome result (λ index. index + 1 < 2 ^ 64) }
     {
         for index in 0..self.count() {

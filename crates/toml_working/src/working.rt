@@ -6,6 +6,7 @@ ghost use Rattle.toml_working.specs.Putting.{IsLastAt};
 ghost use Rattle.toml_working.specs.Placing.{FindsLast, FindsRootEnd, IsOfRoot, PassesSlot};
 ghost use Rattle.toml_working.specs.RemovingIn.{CountsBase};
 ghost use Rattle.toml_working.specs.Seeing.{CountsSteps, FindsAny, FindsHeader, FindsHeaderIn, FindsHolder, FindsLine, FindsTable, FindsValue, HoldsNone, MeetsHeader, SeesAt};
+ghost use Rattle.toml_working.specs.TablePlaces.{FindsDotted, FindsDottedIn, FindsFirst, FindsImplied, FindsImpliedIn, MeetsDotted};
 
 use crate::elements::Elements;
 use crate::lines::{Line, Seen, Slot, Sought};
@@ -227,6 +228,7 @@ impl<'x> Tree<'x> {
         at: &Address,
     ) -> Option<Position>
         ensures finds { FindsLine what at.now before.entry.units.now self.now.slots.items slot result }
+        ensures first { FindsFirst what at.now before.entry.units.now self.now.slots.items slot result }
         ensures low { IfSome result (λ at. at.index + 1 < 2 ^ 64) }
     {
         let index = self.slots.get(slot)?.find(before.units, what, at)?;
@@ -242,6 +244,8 @@ impl<'x> Tree<'x> {
     ) -> Option<TablePlace>
         ensures finds { FindsTable at.now before.entry.units.now self.now.slots.items result }
         ensures header { FindsHeader at.now before.entry.units.now self.now.slots.items result }
+        ensures dotted { FindsDotted at.now before.entry.units.now self.now.slots.items result }
+        ensures implied { FindsImplied at.now before.entry.units.now self.now.slots.items result }
     {
         match self.near_table(before, named, at) {
             Some(place) => Some(place),
@@ -258,6 +262,7 @@ impl<'x> Tree<'x> {
     ) -> Option<TablePlace>
         ensures finds { FindsTable at.now before.entry.units.now self.now.slots.items result }
         ensures meets { MeetsHeader at.now before.entry.units.now self.now.slots.items result }
+        ensures dotted { MeetsDotted at.now before.entry.units.now self.now.slots.items result }
     {
         match named {
             Some(Place::Header(line)) => self.header_in(before, line, at),
@@ -271,6 +276,8 @@ impl<'x> Tree<'x> {
     fn sought_table(&self, before: Before<'_, 'x>, at: &Address) -> Option<TablePlace>
         ensures finds { FindsTable at.now before.entry.units.now self.now.slots.items result }
         ensures header { FindsHeader at.now before.entry.units.now self.now.slots.items result }
+        ensures dotted { FindsDotted at.now before.entry.units.now self.now.slots.items result }
+        ensures implied { FindsImplied at.now before.entry.units.now self.now.slots.items result }
     {
         let mut dotted = None;
         let mut implicit = None;
@@ -303,6 +310,7 @@ impl<'x> Tree<'x> {
     fn dotted_in(&self, before: Before<'_, 'x>, slot: usize, at: &Address) -> Option<TablePlace>
         ensures finds { FindsTable at.now before.entry.units.now self.now.slots.items result }
         ensures meets { MeetsHeader at.now before.entry.units.now self.now.slots.items result }
+        ensures dotted { FindsDottedIn at.now before.entry.units.now self.now.slots.items slot result }
     {
         let place = self.line_in(before, slot, Sought::Dotted, at)?;
         Some(TablePlace::Dotted(place))
@@ -310,7 +318,8 @@ impl<'x> Tree<'x> {
 
     /// The first header line of a slot that stands below the table.
     fn implicit_in(&self, before: Before<'_, 'x>, slot: usize, at: &Address) -> Option<TablePlace>
-        ensures { FindsTable at.now before.entry.units.now self.now.slots.items result }
+        ensures finds { FindsTable at.now before.entry.units.now self.now.slots.items result }
+        ensures implied { FindsImpliedIn at.now before.entry.units.now self.now.slots.items slot result }
     {
         let place = self.line_in(before, slot, Sought::HeaderBelow, at)?;
         Some(TablePlace::Implicit(place))

@@ -1,7 +1,9 @@
 -- What a new key spells: its names, its outline, its text.
-use Rattle.std.proofs.Common.{◌≡◌, List, [], ◌∷◌, ℕ, map, refl, ap, ap₂}
+use Rattle.std.proofs.Common.{◌≡◌, ◌∙◌, List, [], ◌∷◌, ◌++◌, ℕ, map, refl, sym, ap, ap₂, append_assoc}
+use Rattle.std.specs.List.{flat_map, join_by}
 use Rattle.toml_scalar.specs.Spelling.{spelled}
 use Rattle.toml_scalar.proofs.Proved.{name_found, spelled_names}
+use Rattle.toml_tree.specs.Spells.{Part, all_parts, dotted_parts, joined, key_parts}
 use Rattle.toml_tree.specs.Tree.{Dotted}
 use Rattle.toml_names.specs.mentions.Keys.{Key, key_names, name_or_empty, part_name, spelled_name}
 use Rattle.toml_layout.specs.NewKeys.{bare_part}
@@ -28,3 +30,15 @@ key_again n names = ap₂ (λ a b. a ∷ b) (spelled_again n) (names_again names
 pub names_outlined : (ns : Key) → map dotted_outline (map dotted_name ns) ≡ map bare_part (map spelled ns)
 names_outlined [] = refl
 names_outlined (n ∷ ns) = ap (λ r. bare_part (spelled n) ∷ r) (names_outlined ns)
+
+-- the text of names behind the first
+abbrev dotted : List (List ℕ) → List ℕ
+dotted = flat_map (λ n. 0x2E ∷ spelled n)
+
+dotted_is : (names : List (List ℕ)) (ps : List Part) → joined (all_parts dotted_parts (map dotted_name names) ++ ps) ≡ dotted names ++ joined ps
+dotted_is [] ps = refl
+dotted_is (n ∷ names) ps = ap (λ r. 0x2E ∷ r) (ap (λ r. spelled n ++ r) (dotted_is names ps) ∙ sym (append_assoc (spelled n) (dotted names) (joined ps)))
+
+pub key_is : (names : List (List ℕ)) (ps : List Part) → joined (key_parts (key_named names) ++ ps) ≡ join_by spelled (0x2E ∷ []) names ++ joined ps
+key_is [] ps = refl
+key_is (n ∷ names) ps = ap (λ r. spelled n ++ r) (dotted_is names ps) ∙ sym (append_assoc (spelled n) (dotted names) (joined ps))

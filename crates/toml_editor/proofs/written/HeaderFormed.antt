@@ -29,7 +29,7 @@ parts_formed : (ns : Key) → EachIs IsDotted (map dotted_name ns)
 parts_formed [] = tt
 parts_formed (n ∷ ns) = ((tt, tt, (n, spelled_names n)), parts_formed ns)
 
-key_formed : (names : Key) → HasNames names → IsKey (key_named names)
+pub key_formed : (names : Key) → HasNames names → IsKey (key_named names)
 key_formed names (n, ns, is) = subst (λ k. IsKey (key_named k)) (sym is) ((n, spelled_names n), parts_formed ns)
 
 expr_formed : (b : Brackets) (p : Address) (ws : List ℕ) → IsWs ws → IsKey (key_named (names_of p)) → IsExpr (header_expr b p ws)
@@ -73,7 +73,7 @@ header_forms b p style old new put is newline =
 abbrev IsPlain : Line → Type 0
 IsPlain l = ExprHasPlainTables l.expr
 
-header_plain : (b : Brackets) (p : Address) (style : List ℕ) (old new : List Line) → IsHeaderPut b p style old new → EachIs IsPlain old → EachIs IsPlain new
+pub header_plain : (b : Brackets) (p : Address) (style : List ℕ) (old new : List Line) → IsHeaderPut b p style old new → EachIs IsPlain old → EachIs IsPlain new
 header_plain b p style old new put is = elim put.put [
   | inl at ↦
       let parts = subst (EachIs IsPlain) at.was is in

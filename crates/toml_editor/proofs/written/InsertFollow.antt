@@ -22,25 +22,29 @@ use Rattle.toml_working.specs.declared.working.Tree.{Tree}
 use Rattle.toml_editor.specs.Exact.{Follows, IsAt}
 use Rattle.toml_working.specs.InsertingInTables.{insert_in}
 use Rattle.toml_working.specs.Putting.{InsertsLines, IsNameIn, manner}
-use Rattle.toml_working.specs.Sections.{TreePutsBelow}
+use Rattle.toml_working.specs.InTables.{TreePutsIn}
 use Rattle.toml_working.specs.Spellings.{AreSteps, step_spelled}
 use Rattle.toml_working.specs.Standing.{Read, standing}
 use Rattle.toml_working.specs.Stands.{KeepsRest, Stands}
 use Rattle.toml_working.specs.Starting.{NoneIsGone}
-use Rattle.toml_working.specs.Premises.{HasSection}
+use Rattle.toml_working.specs.Premises.{HasTable}
 use Rattle.toml_editor.specs.Steps.{IsPlain}
 use Rattle.toml_layout.specs.TreeOutlines.{value_outline}
 use Rattle.toml_editor.proofs.SourceKept.{source_kept}
+use Rattle.toml_editor.proofs.written.ImpliedStands.{implied_is_below, insert_stands_ahead}
 use Rattle.toml_editor.proofs.written.BelowStands.{insert_stands_below}
+use Rattle.toml_editor.proofs.written.DottedKeys.{dotted_is_keyed}
+use Rattle.toml_editor.proofs.written.DottedStands.{insert_stands_among}
 use Rattle.toml_editor.proofs.written.Follow.{follows}
 use Rattle.toml_editor.proofs.written.HeadersAlone.{header_is_alone}
 use Rattle.toml_editor.proofs.written.InsertStands.{insert_stands, root_comes_first}
 use Rattle.toml_editor.proofs.written.OnePlace.{one_place_in_section}
+use Rattle.toml_editor.proofs.written.OnePlaceDotted.{one_place_among}
 use Rattle.toml_editor.proofs.written.StandingOrder.{rules_order}
 
 -- edited lines, for which the tree stands
 module _ (profile : Profile) (read : Read) (old new : Tree) (value text : List ℕ) (kinds now : Kinds) (at : IsAt profile read old text kinds) (rest : KeepsRest old new)
-    (q : Address) (name : List ℕ) (v : Value) (is : IsValueIn profile v value) (there : HasSection at.good.tree.lines q) where
+    (q : Address) (name : List ℕ) (v : Value) (is : IsValueIn profile v value) (there : HasTable at.good.tree.lines q) where
   abbrev lines : List Line
   lines = at.good.tree.lines
 
@@ -55,6 +59,7 @@ module _ (profile : Profile) (read : Read) (old new : Tree) (value text : List �
 -- the spelling of the last step
 name_spelled : (q : Address) (name : List ℕ) (p : Address) (steps : List (String Global)) → p ≡ child q name → AreSteps p steps → IsNameIn q name p steps
 name_spelled q name p steps is spelled = record {
+  some = λ none. cc;
   at_is = is;
   steps_is = ap (drop (length q)) (spelled ∙ ap (map step_spelled) is) ∙ last_of q;
 }
@@ -65,29 +70,40 @@ name_spelled q name p steps is spelled = record {
 
 -- the lines for which it stands are those
 made_lines : (read : Read) (old new : Tree) (p : Address) (name : List ℕ) (q : Address) (v : Value) (steps : List (String Global)) (lines : List Line) → AreLines lines
-    → KeepsRules (named lines) → Stands (text_of old.texts.source) read old.slots.items (standing lines) → IsNameIn q name p steps → HasSection lines q
+    → KeepsRules (named lines) → Stands (text_of old.texts.source) read old.slots.items (standing lines) → p ≡ child q name → AreSteps p steps → HasTable lines q
     → InsertsLines p steps (value_outline v) (manner old) (text_of old.texts.source) read old.slots.items new.slots.items
-    → TreePutsBelow q p steps (value_outline v) read old new
+    → TreePutsIn q p steps (value_outline v) read old new
     → Stands (text_of old.texts.source) read new.slots.items (standing (insert_in q name v (manner old) lines))
-made_lines read old new p name [] v steps lines forms keeps stands named_so there inserts below =
+made_lines read old new p name [] v steps lines forms keeps stands own spelled there inserts below =
     subst (Stands (text_of old.texts.source) read new.slots.items) (sym (insert_stands name v (manner old) lines forms))
-    (inserts name named_so (standing lines) stands (root_comes_first lines forms))
-made_lines read old new p name (s ∷ q) v steps lines forms keeps stands named_so (inl none) inserts below = cc
-made_lines read old new p name (s ∷ q) v steps lines forms keeps stands named_so (inr header) inserts below =
+    (inserts name (name_spelled [] name p steps own spelled) (standing lines) stands (root_comes_first lines forms))
+made_lines read old new p name (s ∷ q) v steps lines forms keeps stands own spelled (inl (inl none)) inserts below = cc
+made_lines read old new p name (s ∷ q) v steps lines forms keeps stands own spelled (inl (inr header)) inserts below =
     let some : ¬ (s ∷ q ≡ []) = λ e. cc in
-    let (ts, made, put) = below some name named_so (standing lines) stands (rules_order lines keeps) (header_is_alone (s ∷ q) lines keeps header) in
+    let (ts, made, put) = below.header some name (name_spelled (s ∷ q) name p steps own spelled) (standing lines) stands (rules_order lines keeps)
+    (header_is_alone (s ∷ q) lines keeps header) in
     subst (Stands (text_of old.texts.source) read new.slots.items)
-    (one_place_in_section (s ∷ q) name (value_outline v) (manner old) lines ts _ some keeps put (insert_stands_below (s ∷ q) name v (manner old) lines forms some (inr header))) made
+    (one_place_in_section (s ∷ q) name (value_outline v) (manner old) lines ts _ some keeps put
+    (insert_stands_below (s ∷ q) name v (manner old) lines forms some (inr header))) made
+made_lines read old new p name (s ∷ q) v steps lines forms keeps stands own spelled (inr (inl dotted)) inserts below =
+    let some : ¬ (s ∷ q ≡ []) = λ e. cc in
+    let (ts, made, put) = below.dotted name own spelled (standing lines) stands (rules_order lines keeps) (dotted_is_keyed (s ∷ q) lines dotted) in
+    subst (Stands (text_of old.texts.source) read new.slots.items)
+    (one_place_among (s ∷ q) name (value_outline v) (manner old) lines ts _ keeps put (insert_stands_among (s ∷ q) name v (manner old) lines forms some dotted)) made
+made_lines read old new p name (s ∷ q) v steps lines forms keeps stands own spelled (inr (inr implied)) inserts below =
+    let some : ¬ (s ∷ q ≡ []) = λ e. cc in
+    subst (Stands (text_of old.texts.source) read new.slots.items) (sym (insert_stands_ahead (s ∷ q) name v (manner old) lines forms some keeps implied))
+    (below.implied some name own spelled (standing lines) stands (rules_order lines keeps) (implied_is_below (s ∷ q) lines implied))
 
 pub insert_follows : (profile : Profile) (read : Read) (old new : Tree) (p : Address) (value text : List ℕ) (kinds now : Kinds)
     (at : IsAt profile read old text kinds) → IsFault profile (insert p value) kinds None → IsAfter profile (insert p value) kinds now
     → IsPlain at.good.tree.lines (insert p value) → KeepsRest old new → (v : Value) → IsValueIn profile v value → (steps : List (String Global)) → AreSteps p steps
     → InsertsLines p steps (value_outline v) (manner old) (text_of old.texts.source) read old.slots.items new.slots.items
-    → ((q : Address) (last : Step) → p ≡ q ++ last ∷ [] → TreePutsBelow q p steps (value_outline v) read old new)
+    → ((q : Address) (last : Step) → p ≡ q ++ last ∷ [] → TreePutsIn q p steps (value_outline v) read old new)
     → Follows profile read (insert p value) old new text now
 insert_follows profile read old new p value text kinds now at none is_after (q, name, own, there) rest v is steps spelled inserts below =
     let lines = at.good.tree.lines in
-    let made = made_lines read old new p name q v steps lines at.good.spelled.0.lines.forms at.good.good.0 at.stands (name_spelled q name p steps own spelled) there inserts
+    let made = made_lines read old new p name q v steps lines at.good.spelled.0.lines.forms at.good.good.0 at.stands own spelled there inserts
     (below q (Name name) own) in
     subst (λ x. Follows profile read (insert x value) old new text now) (sym own)
     (edited_follows profile read old new value text kinds now at rest q name v is there

@@ -1,65 +1,67 @@
 -- What is named after an `insert`.
-use Rattle.std.proofs.Common.{◌≡◌, inl, inr, ℕ, ◌+◌, List, [], ◌∷◌, ◌++◌, sym, ap, ap₂, ◌∙◌, subst, subst₂}
-use Rattle.toml_scalar.specs.Spelling.{spelled}
-use Rattle.toml_scalar.proofs.Proved.{name_found, spelled_names}
+use Rattle.std.proofs.Common.{◌≡◌, ℕ, List, [], ◌∷◌, ◌++◌, refl, sym, ap, ap₂, ◌∙◌, append_assoc}
+use Rattle.toml_tree.specs.Bare.{fresh}
 use Rattle.toml_tree.specs.Tree.{Value, Line}
 use Rattle.toml_names.specs.declared.mentions.mention.Role.TheVariants.{Valued}
-use Rattle.toml_names.specs.mentions.Alike.{AreAlike}
-use Rattle.toml_names.specs.mentions.Keys.{spelled_name, name_or_empty}
-use Rattle.toml_names.specs.mentions.Mentions.{Named, named_by, named_from, root, pair_named, section, value_named, inside}
-use Rattle.toml_names.specs.model.Addresses.{Address, child}
-use Rattle.toml_working.specs.Inserting.{new_assign, new_expr, line_put}
-use Rattle.toml_working.specs.InsertingInTables.{insert_in}
+use Rattle.toml_names.specs.mentions.Keys.{Key}
+use Rattle.toml_names.specs.mentions.Mentions.{Named, fronts, named, named_by, root, section, value_named, inside}
+use Rattle.toml_names.specs.model.Addresses.{Address, below}
+use Rattle.toml_working.specs.Inserting.{new_assign, new_expr, new_line, line_put}
 use Rattle.toml_working.specs.Manners.{Manner}
-use Rattle.toml_layout.specs.Spacings.{Spacing, plain_spacing}
-use Rattle.toml_editor.specs.Blocks.{IsPut, value_block}
-use Rattle.toml_editor.specs.InsertLaws.{InsertNames}
+use Rattle.toml_layout.specs.Spacings.{Spacing}
+use Rattle.toml_editor.specs.Blocks.{named_plain, value_block}
 use Rattle.toml_editor.proofs.written.Alike.{alike_self, alike_pair}
-use Rattle.toml_editor.proofs.written.Behind.{put_behind, put_here}
-use Rattle.toml_editor.proofs.written.InsertPlaces.{IsPlace, insert_in_place}
-use Rattle.toml_editor.proofs.written.Plain.{behind, behind_alike, next_alike, plain_is}
+use Rattle.toml_editor.proofs.written.FreshKeys.{key_again}
+use Rattle.toml_editor.proofs.written.Plain.{behind, behind_alike, plain_alike, plain_is, plain_parts}
 
-pub spelled_again : (name : List ℕ) → spelled_name (spelled name) ≡ name
-spelled_again name = ap name_or_empty (name_found (spelled name) name (spelled_names name))
+module _ (at : Address) (name : List ℕ) (names : Key) (v : Value) where
+  abbrev pub key : Key
+  key = name ∷ names
 
-module _ (q : Address) (name : List ℕ) (v : Value) where
-  new_named : (s : Spacing) (xs : List Named) → section xs ≡ q → named_by xs 0 (new_expr s name v) ≡ value_block (child q name) v
+  -- the tables that the key passes, and the value
+  abbrev pub key_block : List Named
+  key_block = fronts 0 at key ++ value_block (below at key) v
+
+  new_named : (s : Spacing) (xs : List Named) → section xs ≡ at → named_by xs 0 (new_expr s key v) ≡ key_block
   new_named s xs there =
-      ap (λ at. pair_named 0 at (new_assign s name) v) there ∙ ap (λ n. value_named 0 Valued (child q n) v ∷ inside 0 (child q n) v) (spelled_again name)
+      ap₂ (λ a k. fronts 0 a k ++ (value_named 0 Valued (below a k) v ∷ inside 0 (below a k) v)) there (key_again name names)
 
-  put_first : (s : Spacing) (xs : List Named) (ls : List Line) → section xs ≡ q
-      → IsPut (behind xs ls) (value_block (child q name) v) (named_by xs 0 (new_expr s name v) ++ behind (xs ++ named_by xs 0 (new_expr s name v)) ls)
-  put_first s xs ls there =
-      subst (λ l. IsPut (behind xs ls) (value_block (child q name) v) l)
-      (sym (ap₂ (λ t u. t ++ u) (new_named s xs there) (sym (behind_alike ls xs (xs ++ named_by xs 0 (new_expr s name v)) (alike_pair xs xs (alike_self xs) 0 (section xs) (new_assign s name) v)))))
-      (put_here (value_block (child q name) v) (behind xs ls))
+  -- so the line names behind others, and they name what they did
+  pub next_named : (s : Spacing) (newline : List ℕ) (xs : List Named) (ls : List Line) → section xs ≡ at
+      → behind xs (new_line s key v newline ∷ ls) ≡ key_block ++ behind xs ls
+  next_named s newline xs ls there =
+      ap₂ (λ t u. t ++ u) (new_named s xs there)
+      (sym (behind_alike ls xs (xs ++ named_by xs 0 (new_expr s key v)) (alike_pair xs xs (alike_self xs) 0 (section xs) (new_assign s key) v)))
 
-  module _ (manner : Manner) (s : Spacing) (l : Line) where
-    put_line : (xs : List Named) (ls : List Line) → section (xs ++ named_by xs 0 l.expr) ≡ q
-        → IsPut (behind xs (l ∷ ls)) (value_block (child q name) v) (behind xs (line_put s name v manner l ls))
-    put_line xs [] there =
-        put_behind (named_by xs 0 l.expr) [] (value_block (child q name) v) _ (put_first s (xs ++ named_by xs 0 l.expr) [] there)
-    put_line xs (m ∷ ms) there =
-        put_behind (named_by xs 0 l.expr) (behind (xs ++ named_by xs 0 l.expr) (m ∷ ms)) (value_block (child q name) v) _
-        (put_first s (xs ++ named_by xs 0 l.expr) (m ∷ ms) there)
+  -- the same behind a line, which may get a newline
+  pub line_named : (manner : Manner) (s : Spacing) (front : List Line) (l : Line) (back : List Line) → section (named (front ++ l ∷ [])) ≡ at
+      → named_plain (front ++ line_put s key v manner l back) ≡ named_plain (front ++ l ∷ []) ++ (key_block ++ behind (named_plain (front ++ l ∷ [])) back)
+  line_named manner s front l back there =
+      by back
+      ∙ ap (λ r. named_plain (front ++ l ∷ []) ++ r) (next_named s [] (named_plain (front ++ l ∷ [])) back (sym (plain_alike (named (front ++ l ∷ []))).sections ∙ there))
+    where
+      xs : List Named
+      xs = named_plain (front ++ l ∷ [])
 
-    put_at : (front back : List Line) (xs ys : List Named) (n : ℕ) → AreAlike xs ys → section (named_from xs n (front ++ l ∷ [])) ≡ q
-        → IsPut (behind ys (front ++ l ∷ back)) (value_block (child q name) v) (behind ys (front ++ line_put s name v manner l back))
-    put_at [] back xs ys n alike there = put_line ys back (sym (next_alike xs ys n l.expr alike).sections ∙ there)
-    put_at (m ∷ front) back xs ys n alike there =
-        put_behind (named_by ys 0 m.expr) _ (value_block (child q name) v) _
-        (put_at front back (xs ++ named_by xs n m.expr) (ys ++ named_by ys 0 m.expr) (n + 1) (next_alike xs ys n m.expr alike) there)
+      ended_from : (ls : List Line) (ys : List Named) → behind ys (ls ++ record { expr = l.expr; newline = fresh manner.newline } ∷ []) ≡ behind ys (ls ++ l ∷ [])
+      ended_from [] ys = refl
+      ended_from (k ∷ ls) ys = ap (λ r. named_by ys 0 k.expr ++ r) (ended_from ls (ys ++ named_by ys 0 k.expr))
 
-  put_lines : (manner : Manner) (lines new : List Line) → IsPlace q name v manner lines new → IsPut (behind (root ∷ []) lines) (value_block (child q name) v) (behind (root ∷ []) new)
-  put_lines manner lines new (inl (at_root, first)) =
-      subst (λ ls. IsPut (behind (root ∷ []) lines) (value_block (child q name) v) (behind (root ∷ []) ls)) (sym first) (put_first plain_spacing (root ∷ []) lines (sym at_root))
-  put_lines manner lines new (inr found) =
-      subst₂ (λ ls ms. IsPut (behind (root ∷ []) ls) (value_block (child q name) v) (behind (root ∷ []) ms)) (sym found.was) (sym found.is)
-      (put_at manner found.spacing found.line found.front found.back (root ∷ []) (root ∷ []) 0 (alike_self (root ∷ [])) found.section_is)
+      ended_plain : (ls : List Line) → named_plain (ls ++ record { expr = l.expr; newline = fresh manner.newline } ∷ []) ≡ named_plain (ls ++ l ∷ [])
+      ended_plain ls =
+          plain_is (ls ++ record { expr = l.expr; newline = fresh manner.newline } ∷ []) ∙ ap (λ r. root ∷ r) (ended_from ls (root ∷ []))
+          ∙ sym (plain_is (ls ++ l ∷ []))
 
-pub insert_names : InsertNames
-insert_names q name v manner lines there =
-    let new = insert_in q name v manner lines in
-    subst₂ (λ s t. IsPut s (value_block (child q name) v) t) (sym (plain_is lines)) (sym (plain_is new))
-    (put_behind (root ∷ []) (behind (root ∷ []) lines) (value_block (child q name) v) (behind (root ∷ []) new)
-    (put_lines q name v manner lines new (insert_in_place q name v manner lines there)))
+      by : (ls : List Line) → named_plain (front ++ line_put s key v manner l ls) ≡ xs ++ behind xs (new_line s key v [] ∷ ls)
+      by [] =
+          ap named_plain (sym (append_assoc front (record { expr = l.expr; newline = fresh manner.newline } ∷ []) (new_line s key v [] ∷ [])))
+          ∙ plain_parts (front ++ record { expr = l.expr; newline = fresh manner.newline } ∷ []) (new_line s key v [] ∷ [])
+          ∙ ap (λ ms. ms ++ behind ms (new_line s key v [] ∷ [])) (ended_plain front)
+      by (m ∷ ms) =
+          ap named_plain (sym (append_assoc front (l ∷ []) (new_line s key v manner.newline ∷ m ∷ ms)))
+          ∙ plain_parts (front ++ l ∷ []) (new_line s key v manner.newline ∷ m ∷ ms)
+
+-- what was named by lines up to one, and behind it
+pub named_parts : (front : List Line) (l : Line) (back : List Line)
+    → named_plain (front ++ l ∷ back) ≡ named_plain (front ++ l ∷ []) ++ behind (named_plain (front ++ l ∷ [])) back
+named_parts front l back = ap named_plain (sym (append_assoc front (l ∷ []) back)) ∙ plain_parts (front ++ l ∷ []) back

@@ -153,7 +153,7 @@ insert_stands name v manner ls are =
 
 -- ---- lines of the root come first
 
-section_append : (at : Address) (xs ys : List Named) → section_from at (xs ++ ys) ≡ section_from (section_from at xs) ys
+pub section_append : (at : Address) (xs ys : List Named) → section_from at (xs ++ ys) ≡ section_from (section_from at xs) ys
 section_append at [] ys = refl
 section_append at (x ∷ xs) ys = section_append _ xs ys
 

@@ -4,10 +4,12 @@ use Rattle.toml_tree.specs.Profiles.{HasPair, HasNoLastComma, HasPlainTables, It
 use Rattle.toml_tree.specs.Spells.{EachIs}
 use Rattle.toml_tree.specs.Tree.{Value, Scalar, Array, Inline, Items, Close, Last, More, Pairs, ClosePairs, LastPair, MorePairs, Expr, BlankLine, KeyValLine, TableLine, ArrayTableLine, Line}
 use Rattle.toml_tree.specs.declared.profile.Profile.TheVariants.{One, Two}
-use Rattle.toml_names.specs.mentions.Keys.{key_names}
+use Rattle.toml_names.specs.mentions.Keys.{Key, key_names}
 use Rattle.toml_names.specs.mentions.Mentions.{Named, named_by, root, section}
 use Rattle.toml_names.specs.model.Addresses.{Address, same_address, element, below}
 use Rattle.toml_editor.specs.InsertLaws.{InsertOfProfile}
+use Rattle.toml_layout.specs.declared.tree.Brackets.TheVariants as brackets
+use Rattle.toml_working.specs.Heading.{header_line}
 use Rattle.toml_working.specs.Inserting.{line_put}
 use Rattle.toml_layout.specs.Spacings.{Spacing}
 use Rattle.toml_working.specs.Manners.{Manner}
@@ -22,7 +24,9 @@ use Rattle.toml_working.specs.Renaming.{rename_value, rename_items, rename_pairs
 use Rattle.toml_editor.specs.SetLaws.{SetOfProfile}
 use Rattle.toml_working.specs.Setting.{set_within, set_items, set_pairs, set_expr, set_line}
 use Rattle.toml_editor.proofs.Each.{each_append}
-use Rattle.toml_editor.proofs.written.InsertPlaces.{IsPlace, insert_in_place}
+use Rattle.toml_editor.proofs.written.AheadPlace.{behind_header, header_put}
+use Rattle.toml_editor.proofs.written.HeaderFormed.{header_plain}
+use Rattle.toml_editor.proofs.written.InsertedTables.{IsInserted, insert_in_place}
 use Rattle.toml_editor.proofs.written.RemoveKept.{two_ways}
 
 abbrev ArePlain : List Line → Type 0
@@ -83,21 +87,26 @@ set_of_profile Two p new lines is good = tt
 
 -- ---- insert
 
-module _ (name : List ℕ) (v : Value) (manner : Manner) (plain : HasPlainTables v) where
-  behind_plain : (s : Spacing) (l : Line) (ls : List Line) → ArePlain (l ∷ ls) → ArePlain (line_put s name v manner l ls)
-  behind_plain s l [] is = (is.0, (plain, tt))
-  behind_plain s l (m ∷ ms) is = (is.0, (plain, is.1))
+module _ (v : Value) (manner : Manner) (plain : HasPlainTables v) where
+  behind_plain : (s : Spacing) (key : Key) (l : Line) (ls : List Line) → ArePlain (l ∷ ls) → ArePlain (line_put s key v manner l ls)
+  behind_plain s key l [] is = (is.0, (plain, tt))
+  behind_plain s key l (m ∷ ms) is = (is.0, (plain, is.1))
 
-  at_plain : (s : Spacing) (front back : List Line) (l : Line) → ArePlain (front ++ l ∷ back) → ArePlain (front ++ line_put s name v manner l back)
-  at_plain s [] back l is = behind_plain s l back is
-  at_plain s (m ∷ front) back l is = (is.0, at_plain s front back l is.1)
+  at_plain : (s : Spacing) (key : Key) (front back : List Line) (l : Line) → ArePlain (front ++ l ∷ back) → ArePlain (front ++ line_put s key v manner l back)
+  at_plain s key [] back l is = behind_plain s key l back is
+  at_plain s key (m ∷ front) back l is = (is.0, at_plain s key front back l is.1)
 
-  insert_plain : (q : Address) (ls new : List Line) → IsPlace q name v manner ls new → ArePlain ls → ArePlain new
-  insert_plain q ls new (inl (at_root, first)) is = subst ArePlain (sym first) (plain, is)
-  insert_plain q ls new (inr found) is = subst ArePlain (sym found.is) (at_plain found.spacing found.front found.back found.line (subst ArePlain found.was is))
+  insert_plain : (q : Address) (name : List ℕ) (ls new : List Line) → IsInserted q name v manner ls new → ArePlain ls → ArePlain new
+  insert_plain q name ls new (inl (inl (at_root, first))) is = subst ArePlain (sym first) (plain, is)
+  insert_plain q name ls new (inl (inr put)) is =
+      subst ArePlain (sym put.is) (at_plain put.spacing (put.first ∷ put.rest) put.front put.back put.line (subst ArePlain put.was is))
+  insert_plain q name ls new (inr put) is =
+      subst ArePlain (sym (behind_header q name v manner ls new put))
+      (at_plain put.spacing (name ∷ []) put.front put.back (header_line brackets.One q put.ws manner.newline)
+      (header_plain brackets.One q manner.newline ls _ (header_put q name v manner ls new put) is))
 
 pub insert_of_profile : InsertOfProfile
-insert_of_profile One q name v manner lines there is good = insert_plain name v manner good q lines _ (insert_in_place q name v manner lines there) is
+insert_of_profile One q name v manner lines there is good = insert_plain v manner good q name lines _ (insert_in_place q name v manner lines there) is
 insert_of_profile Two q name v manner lines there is good = tt
 
 -- ---- remove

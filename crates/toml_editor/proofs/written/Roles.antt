@@ -39,18 +39,22 @@ RoleHas Element k = k ≡ a_table
 abbrev pub HasKind : Named → Type 0
 HasKind m = RoleHas m.role m.kind
 
--- neither an array of tables nor named by a header
-abbrev IsPart : Named → Type 0
-IsPart m = (is_tables m.role ≡ false) × (is_section m.role ≡ false) × HasKind m
+-- a header does not pass it
+abbrev pub IsUnpassed : Named → Type 0
+IsUnpassed m = ¬ (m.role ≡ Passed)
+
+-- nor is it an array of tables, or named by a header
+abbrev pub IsPart : Named → Type 0
+IsPart m = IsUnpassed m × (is_tables m.role ≡ false) × (is_section m.role ≡ false) × HasKind m
 
 fronts_parts : (n : ℕ) (key : Key) (at : Address) → EachIs IsPart (fronts n at key)
 fronts_parts n [] at = tt
 fronts_parts n (k ∷ []) at = tt
-fronts_parts n (k ∷ l ∷ more) at = ((refl, refl, refl), fronts_parts n (l ∷ more) (child at k))
+fronts_parts n (k ∷ l ∷ more) at = (((λ is. cc), refl, refl, refl), fronts_parts n (l ∷ more) (child at k))
 
 pair_by : (n : ℕ) (a : Assign) (v : Value) (at : Address) → ((to : Address) → EachIs IsPart (inside n to v)) → EachIs IsPart (pair_named n at a v)
 pair_by n a v at within =
-    each_append IsPart (fronts n at (key_names a.key)) _ (fronts_parts n (key_names a.key) at) ((refl, refl, tt), within (below at (key_names a.key)))
+    each_append IsPart (fronts n at (key_names a.key)) _ (fronts_parts n (key_names a.key) at) (((λ is. cc), refl, refl, tt), within (below at (key_names a.key)))
 
 mutual
   inside_parts : (n : ℕ) (v : Value) (at : Address) → EachIs IsPart (inside n at v)
@@ -60,16 +64,16 @@ mutual
 
   elements_parts : (n : ℕ) (items : Items) (at : Address) (i : ℕ) → EachIs IsPart (elements n at i items)
   elements_parts n (Close g) at i = tt
-  elements_parts n (Last g v h) at i = ((refl, refl, tt), inside_parts n v (element at i))
+  elements_parts n (Last g v h) at i = (((λ is. cc), refl, refl, tt), inside_parts n v (element at i))
   elements_parts n (More g v h is) at i =
-      ((refl, refl, tt), each_append IsPart (inside n (element at i) v) _ (inside_parts n v (element at i)) (elements_parts n is at (i + 1)))
+      (((λ is. cc), refl, refl, tt), each_append IsPart (inside n (element at i) v) _ (inside_parts n v (element at i)) (elements_parts n is at (i + 1)))
 
   members_parts : (n : ℕ) (pairs : Pairs) (at : Address) → EachIs IsPart (members n at pairs)
   members_parts n (ClosePairs g) at = tt
   members_parts n (LastPair g a v h) at = pair_by n a v at (inside_parts n v)
   members_parts n (MorePairs g a v h ps) at = each_append IsPart (pair_named n at a v) _ (pair_by n a v at (inside_parts n v)) (members_parts n ps at)
 
-pair_parts : (n : ℕ) (a : Assign) (v : Value) (at : Address) → EachIs IsPart (pair_named n at a v)
+pub pair_parts : (n : ℕ) (a : Assign) (v : Value) (at : Address) → EachIs IsPart (pair_named n at a v)
 pair_parts n a v at = pair_by n a v at (inside_parts n v)
 
 -- ---- kinds
@@ -77,7 +81,7 @@ pair_parts n a v at = pair_by n a v at (inside_parts n v)
 line_kinds : (xs : List Named) (n : ℕ) (e : Expr) → EachIs HasKind (named_by xs n e)
 line_kinds xs n (BlankLine b) = tt
 line_kinds xs n (KeyValLine ws pair tail) =
-    each_weaker IsPart HasKind (λ m part. part.2) (pair_named n (section xs) pair.assign pair.value) (pair_parts n pair.assign pair.value (section xs))
+    each_weaker IsPart HasKind (λ m part. part.3) (pair_named n (section xs) pair.assign pair.value) (pair_parts n pair.assign pair.value (section xs))
 line_kinds xs n (TableLine ws h tail) = followed_each HasKind n xs (ends_table n) (λ a. refl) (λ to. (refl, tt)) (key_names h.key) []
 line_kinds xs n (ArrayTableLine ws h tail) = followed_each HasKind n xs (ends_tables n xs) (λ a. refl) (λ to. (refl, (refl, tt))) (key_names h.key) []
 
@@ -96,7 +100,7 @@ abbrev pub IsLater : List Named → Named → Type 0
 IsLater xs m = m.role ≡ Element → (c : Address) × (i : ℕ) × (m.address ≡ element c i) × (count_tables xs c ≤ i)
 
 part_later : (xs : List Named) (m : Named) → IsPart m → IsLater xs m
-part_later xs m part is = absurd (true≢false (ap is_section (sym is) ∙ part.1))
+part_later xs m part is = absurd (true≢false (ap is_section (sym is) ∙ part.2))
 
 line_later : (xs : List Named) (n : ℕ) (e : Expr) → EachIs (IsLater xs) (named_by xs n e)
 line_later xs n (BlankLine b) = tt

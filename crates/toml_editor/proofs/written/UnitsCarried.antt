@@ -40,7 +40,7 @@ use Rattle.toml_editor.proofs.written.RenameFormed.{rename_forms}
 use Rattle.toml_editor.proofs.written.WayComments.{comments}
 use Rattle.toml_working.specs.Setting.{set_lines}
 use Rattle.toml_layout.specs.declared.tree.Brackets.TheVariants.{One, Two}
-use Rattle.toml_working.specs.Premises.{HasLine, HasSection, HasValue, IsInNoValue}
+use Rattle.toml_working.specs.Premises.{HasLine, HasTable, HasValue, IsInNoValue}
 use Rattle.toml_editor.specs.EditedLines.{IsWritten, with_header}
 use Rattle.toml_editor.proofs.written.HeaderFacts.{element_room, section_room}
 use Rattle.toml_editor.proofs.written.HeaderLaidOut.{StandsInLayout, element_laid_out, section_laid_out}
@@ -144,7 +144,7 @@ insert_goes : (p : Address) (value : List ℕ) → HaveWays (insert p value)
 insert_goes p value profile manner before after old now newline good none is_after (d, spells, edited, (v, is_value, q, name, at, there, made), text) =
     let same : d ≡ good.tree = one_tree d good.tree before spells.0 good.spelled.0 in
     let lines = good.tree.lines in
-    let there' : HasSection lines q = subst (λ (x : Doc). HasSection x.lines q) same there in
+    let there' : HasTable lines q = subst (λ (x : Doc). HasTable x.lines q) same there in
     let lines_are : edited ≡ insert_in q name v manner lines = made ∙ ap (λ (x : Doc). insert_in q name v manner x.lines) same in
     record {
       comments_in = texts (comments (inside [] v));

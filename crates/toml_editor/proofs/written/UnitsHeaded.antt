@@ -27,6 +27,7 @@ use Rattle.toml_working.specs.Standing.{standing_from}
 use Rattle.toml_editor.specs.UnitBlocks.{header_line_units, header_text, line_of_nothing}
 use Rattle.toml_editor.proofs.written.Alike.{alike_self}
 use Rattle.toml_editor.proofs.written.CountedAlike.{StandSame, stand_same}
+use Rattle.toml_editor.proofs.written.FreshKeys.{key_is}
 use Rattle.toml_editor.proofs.written.HeaderCounted.{AreApart, back_apart, header_counted}
 use Rattle.toml_editor.proofs.written.HeaderPut.{IsApart, IsHeaderPut, IsOneMore, IsPutBefore, IsPutBlank, IsPutLast, ended}
 use Rattle.toml_editor.proofs.written.InsertSpaced.{line_formed}
@@ -41,7 +42,7 @@ use Rattle.toml_editor.proofs.written.WayFits.{newlines}
 abbrev units_at : Expr → Option Address → Option ℕ → List TextUnit
 units_at e a base = record { kind = kinds.Line; piece = expr_piece e; address = a; base = base } ∷ inside_line a e
 
-units_same : (ls : List Line) (xs ys : List Named) (n m : ℕ) → StandSame ls xs ys n m → units_from xs n ls ≡ units_from ys m ls
+pub units_same : (ls : List Line) (xs ys : List Named) (n m : ℕ) → StandSame ls xs ys n m → units_from xs n ls ≡ units_from ys m ls
 units_same [] xs ys n m same = refl
 units_same (l ∷ ls) xs ys n m same =
     ap₂ (λ s t. s ++ t) (ap₂ (units_at l.expr) same.0 same.1)
@@ -68,20 +69,6 @@ last_full xs l full end form = by l.expr full form
     by (TableLine ws h b) some is = full_line xs (TableLine ws h b) tt is
     by (ArrayTableLine ws h b) some is = full_line xs (ArrayTableLine ws h b) tt is
 
--- ---- the text of the new line
-
--- names behind the first
-abbrev dotted : List (List ℕ) → List ℕ
-dotted = flat_map (λ n. 0x2E ∷ spelled n)
-
-dotted_is : (names : List (List ℕ)) (ps : List Part) → joined (all_parts dotted_parts (map dotted_name names) ++ ps) ≡ dotted names ++ joined ps
-dotted_is [] ps = refl
-dotted_is (n ∷ names) ps = ap (λ r. 0x2E ∷ r) (ap (λ r. spelled n ++ r) (dotted_is names ps) ∙ sym (append_assoc (spelled n) (dotted names) (joined ps)))
-
-key_is : (names : List (List ℕ)) (ps : List Part) → joined (key_parts (key_named names) ++ ps) ≡ join_by spelled (0x2E ∷ []) names ++ joined ps
-key_is [] ps = refl
-key_is (n ∷ names) ps = ap (λ r. spelled n ++ r) (dotted_is names ps) ∙ sym (append_assoc (spelled n) (dotted names) (joined ps))
-
 -- ---- a new header line
 
 module _ (brackets : Brackets) (p : Address) (ws : List ℕ) where
@@ -100,7 +87,7 @@ module _ (brackets : Brackets) (p : Address) (ws : List ℕ) where
       × (well.put.back ≡ [])
 
 -- its units
-new_units : (brackets : Brackets) (p : Address) (ws : List ℕ) (xs : List Named) → own_address xs (header_expr brackets p ws) ≡ Some p
+pub new_units : (brackets : Brackets) (p : Address) (ws : List ℕ) (xs : List Named) → own_address xs (header_expr brackets p ws) ≡ Some p
     → line_units xs (header_expr brackets p ws) ≡ header_block brackets p ws
 new_units One p ws xs leads =
     ap (λ a. units_at (header_expr One p ws) a None) leads ∙ ap (λ t. header_line_units (fresh t) p) text_is

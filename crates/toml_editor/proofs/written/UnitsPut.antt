@@ -1,4 +1,4 @@
--- The units after one line more, and so after an `insert`.
+-- The units after one line more.
 use Rattle.std.proofs.Common.{◌≡◌, ℕ, ◌+◌, Some, None, List, [], ◌∷◌, ◌++◌, length, refl, sym, ap, ap₂, ◌∙◌, subst, subst₂, append_assoc, append-nil, ◌⊎◌, inl, inr, ◌<◌, zero, suc, arith, Option}
 use Rattle.std.specs.Prelude.{slice_get}
 use Rattle.toml_scalar.specs.Spelling.{spelled}
@@ -18,12 +18,10 @@ use Rattle.toml_working.specs.InsertingInTables.{insert_in}
 use Rattle.toml_layout.specs.declared.layout.Layout.TheVariants as layouts
 use Rattle.toml_working.specs.Manners.{Manner}
 use Rattle.toml_layout.specs.Spacings.{Spacing, plain_spacing}
-use Rattle.toml_working.specs.Premises.{HasSection}
 use Rattle.toml_editor.specs.UnitBlocks.{BeginWithLine, IsBlockPut, pair_line_units, pair_text, InsertUnits}
 use Rattle.toml_editor.proofs.written.Alike.{alike_self, alike_pair}
 use Rattle.toml_editor.proofs.written.InsertSpaced.{line_formed}
 use Rattle.toml_editor.proofs.written.InsertPlace.{IsFull}
-use Rattle.toml_editor.proofs.written.InsertPlaces.{IsPlace, insert_in_place}
 use Rattle.toml_editor.proofs.written.FreshKeys.{spelled_again}
 use Rattle.toml_editor.proofs.written.LastLines.{LastIsFull, full_behind, full_line}
 use Rattle.toml_editor.proofs.written.WayBlock.{inside_lines, lines_append}
@@ -58,11 +56,11 @@ line_lines xs (KeyValLine ws k b) =
 line_lines xs (TableLine ws h b) = one_and (comment_lines (own_address xs (TableLine ws h b)) b.comment)
 line_lines xs (ArrayTableLine ws h b) = one_and (comment_lines (own_address xs (ArrayTableLine ws h b)) b.comment)
 
-some_lines : (xs : List Named) (n : ℕ) (l : Line) (ls : List Line) → 0 < lines_in (units_from xs n (l ∷ ls))
+pub some_lines : (xs : List Named) (n : ℕ) (l : Line) (ls : List Line) → 0 < lines_in (units_from xs n (l ∷ ls))
 some_lines xs n l ls = let both = lines_append (line_units xs l.expr)
     (units_from (xs ++ named_by xs n l.expr) (n + 1) ls) in let one = line_lines xs l.expr in omega (arith, both, one)
 
-abbrev put_behind : (Formed : Type 0) (us old block new : List TextUnit) (before after : List (List ℕ)) (newline : List ℕ) → lines_in us ≡ 1 → 0 < lines_in old
+abbrev pub put_behind : (Formed : Type 0) (us old block new : List TextUnit) (before after : List (List ℕ)) (newline : List ℕ) → lines_in us ≡ 1 → 0 < lines_in old
     → IsPutWell Formed old block new before after
     → IsPutWell Formed (us ++ old) block (us ++ new) (newline ∷ before) (newline ∷ after)
 put_behind Formed us old block new before after newline one some h =
@@ -173,73 +171,3 @@ pub formed_well : (Formed Other : Type 0) (old new block : List TextUnit) (befor
     → IsPutWell Other old block new before after
 formed_well Formed Other old new block before after from well =
     record { put = well.put; front_ends = well.front_ends; back_ends = well.back_ends; full = λ formed none. well.full (from formed) none }
-
--- ---- of the line of an `insert`
-
-module _ (q : Address) (name : List ℕ) (v : Value) where
-  abbrev pub block : Spacing → List TextUnit
-  block s = pair_line_units (fresh (pair_text s name v)) (child q name) (length q) v None
-
-  new_text : joined (value_parts v ++ piece (fresh []) ∷ []) ≡ joined (value_parts v)
-  new_text = parts_join (value_parts v) (piece (fresh []) ∷ []) ∙ append-nil (joined (value_parts v))
-
-  abbrev line_of : Piece → Address → ℕ → List TextUnit
-  line_of p at base = record { kind = kinds.Line; piece = p; address = Some at; base = Some base } ∷ (inside at v ++ [])
-
-  new_units : (s : Spacing) (xs : List Named) → section xs ≡ q → line_units xs (new_expr s name v) ≡ block s
-  new_units s xs there =
-      ap (λ at. line_of (record { start = 0; text = s.ws ++ (spelled name ++ (s.before_equals ++ 0x3D ∷ (s.after_equals ++ joined (value_parts v ++ piece (fresh []) ∷ [])))) }) (at ++ Name (spelled_name (spelled name)) ∷ []) (length at)) there
-      ∙ ap₂ (λ t m. line_of (fresh (s.ws ++ (spelled name ++ (s.before_equals ++ 0x3D ∷ (s.after_equals ++ t))))) (child q m) (length q)) new_text (spelled_again name)
-
-  put_first : (Formed : Type 0) (s : Spacing) (xs : List Named) (n m : ℕ) (ls : List Line) (ending : List ℕ) → section xs ≡ q
-      → IsPutWell Formed (units_from xs n ls) (block s) (line_units xs (new_expr s name v) ++ units_from (xs ++ named_by xs m (new_expr s name v)) (m + 1) ls) (newlines ls) (ending ∷ newlines ls)
-  put_first Formed s xs n m ls ending there =
-      put_before Formed (new_expr s name v) (block s) xs n m ls ending (new_units s xs there)
-      (units_alike ls xs (xs ++ named_by xs m (new_expr s name v)) n (m + 1) (alike_pair xs xs (alike_self xs) m (section xs) (new_assign s name) v))
-
-  module _ (manner : Manner) (s : Spacing) (l : Line) (keyed : IsFull l.expr) where
-    abbrev Well : List TextUnit → List TextUnit → List (List ℕ) → List (List ℕ) → Type 0
-    Well old new = IsPutWell (IsExpr l.expr) old (block s) new
-
-    put_line : (ls : List Line) (xs : List Named) (n : ℕ) → section (xs ++ named_by xs n l.expr) ≡ q
-        → Well (units_from xs n (l ∷ ls)) (units_from xs n (line_put s name v manner l ls)) (newlines (l ∷ ls)) (newlines (line_put s name v manner l ls))
-    put_line [] xs n there =
-        put_last (IsExpr l.expr) l (new_expr s name v) (block s) xs n manner.newline (new_units s (xs ++ named_by xs n l.expr) there) (full_line xs l.expr keyed)
-    put_line (m ∷ ms) xs n there =
-        put_behind (IsExpr l.expr) (line_units xs l.expr) (units_from (xs ++ named_by xs n l.expr) (n + 1) (m ∷ ms)) (block s) _ (newlines (m ∷ ms))
-        (manner.newline ∷ newlines (m ∷ ms)) l.newline.text (line_lines xs l.expr) (some_lines (xs ++ named_by xs n l.expr) (n + 1) m ms)
-        (put_first (IsExpr l.expr) s (xs ++ named_by xs n l.expr) (n + 1) (n + 1) (m ∷ ms) manner.newline there)
-
-    put_at : (front back : List Line) (xs : List Named) (n : ℕ) → section (named_from xs n (front ++ l ∷ [])) ≡ q
-        → Well (units_from xs n (front ++ l ∷ back)) (units_from xs n (front ++ line_put s name v manner l back)) (newlines (front ++ l ∷ back))
-        (newlines (front ++ line_put s name v manner l back))
-    put_at front back = put_among (IsExpr l.expr) (block s) l back (line_put s name v manner l back) (l ∷ []) (λ xs. section xs ≡ q) (put_line back) front
-
-  abbrev IsPutIn : Manner → List Line → List Line → Type 0
-  IsPutIn manner lines new = (s : Spacing) × (manner.layout ≡ layouts.Plain → s ≡ plain_spacing)
-      × IsPutWell (AreLines lines) (units lines) (block s) (units new) (newlines lines) (newlines new)
-
-  put_lines : (manner : Manner) (lines new : List Line) → IsPlace q name v manner lines new → IsPutIn manner lines new
-  put_lines manner lines new (inl (at_root, first)) = (
-    plain_spacing,
-    (λ is. refl),
-    subst (λ ls. IsPutWell (AreLines lines) (units lines) (block plain_spacing) (units ls) (newlines lines) (newlines ls)) (sym first)
-        (put_first (AreLines lines) plain_spacing (root ∷ []) 0 0 lines manner.newline (sym at_root)),
-  )
-  put_lines manner lines new (inr found) =
-      let l = found.line in
-      let s = found.spacing in
-      let was = found.front ++ l ∷ found.back in
-      let made = found.front ++ line_put s name v manner l found.back in (
-        s,
-        found.plain,
-        subst₂ (λ ls ms. IsPutWell (AreLines ls) (units ls) (block s) (units ms) (newlines ls) (newlines ms)) (sym found.was) (sym found.is)
-            (formed_well (IsExpr l.expr) (AreLines was) (units was) (units made) (block s) (newlines was) (newlines made) (line_formed found.front found.back l)
-            (put_at manner s l found.full found.front found.back (root ∷ []) 0 found.section_is)),
-      )
-
-  pub puts_lines : (manner : Manner) (lines : List Line) → HasSection lines q → IsPutIn manner lines (insert_in q name v manner lines)
-  puts_lines manner lines there = put_lines manner lines _ (insert_in_place q name v manner lines there)
-
-pub insert_units : InsertUnits
-insert_units q name v manner lines there = let (s, plain, well) = puts_lines q name v manner lines there in (s, plain, well.put)

@@ -11,14 +11,14 @@ use Rattle.toml_names.specs.mentions.Keys as names
 use Rattle.toml_names.specs.mentions.Keys.{part_name, key_names, rest_names}
 use Rattle.toml_names.specs.mentions.Mentions.{Named, named, named_by, named_from, root, section, entered}
 use Rattle.toml_names.specs.model.Addresses.{Address, IsAbove, child, element, below}
-use Rattle.toml_editor.specs.InsertLaws.{InsertKeepsLines}
+use Rattle.toml_editor.specs.InsertLaws.{Ahead, Behind, First, InsertKeepsLines}
 use Rattle.toml_working.specs.Lines.{array_of, inline_of, lines_from}
 use Rattle.toml_editor.specs.RenameLaws.{HasNoPart, IsBesideKeys, RenameKeepsLine}
 use Rattle.toml_working.specs.Renaming.{rename_part, rename_rest, rename_key, rename_assign, rename_value, rename_items, rename_pairs, rename_header, rename_expr}
 use Rattle.toml_editor.specs.SetLaws.{IsBesideValue, SetKeepsLine}
 use Rattle.toml_working.specs.Setting.{set_value, set_expr}
 use Rattle.toml_editor.proofs.written.Clear.{differ}
-use Rattle.toml_editor.proofs.written.InsertPlaces.{insert_in_place}
+use Rattle.toml_editor.proofs.written.InsertedTables.{insert_in_place}
 use Rattle.toml_editor.proofs.written.Elsewhere.{beyond, set_within_kept}
 use Rattle.toml_editor.proofs.written.Unplaced.{array_bared, inline_bared, set_bared}
 
@@ -129,6 +129,7 @@ rename_keeps_line p to front back l is beside =
 
 pub insert_keeps_lines : InsertKeepsLines
 insert_keeps_lines q name v manner lines there = elim (insert_in_place q name v manner lines there) [
-  | inl (at_root, first) ↦ inl (at_root, first)
-  | inr found ↦ inr (found.front, found.line, found.back, found.spacing, found.plain, found.was, found.is)
+  | inl (inl (at_root, first)) ↦ First at_root first
+  | inl (inr put) ↦ Behind put.section_at (put.first ∷ put.rest) put.same put.front put.line put.back put.spacing put.plain put.was put.is
+  | inr put ↦ Ahead put.front put.back put.ws put.spacing put.plain put.was put.is
 ]

@@ -157,7 +157,7 @@ module _ (c : Change) (puts : PutsHeader c) where
     Comes = ComesOwed (c ∷ []) before after
 
     header_comes : EachIs Comes block
-    header_comes = ((λ is none. inr (inl (p, p, puts.goes, refl, puts.itself))), tt)
+    header_comes = ((λ is none. inr (inl (inl (p, p, puts.goes, refl, puts.itself)))), tt)
 
     way_alone : AreLines old → IsPutAlone brackets p ws old edited → Way
     way_alone formed well =

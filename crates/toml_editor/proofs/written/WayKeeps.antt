@@ -18,6 +18,7 @@ use Rattle.toml_checker.specs.Comments.{is_comment}
 use Rattle.toml_checker.specs.Plain.{Site, site, next_line, stands, is_named, is_kept, home_stands}
 use Rattle.toml_edits.specs.Sides.{side}
 use Rattle.toml_editor.proofs.written.Way.{Step, both, old, new, one_line, is_here}
+use Rattle.toml_editor.proofs.written.WayHome.{IsOwedHeader}
 use Rattle.toml_editor.proofs.written.WayOwed.{IsOwedBelow}
 
 -- a site where the edits carry it
@@ -30,9 +31,9 @@ module _ (cs : List Change) (before after : List (List ℕ)) where
     pub newline : (slice_get before a ≡ slice_get after b) ⊎ (a + 1 ≡ length before)
     pub last : b + 1 ≡ length after → a + 1 ≡ length before
 
-  -- a line that comes and has no key is blank, or a header's at or below what the edits put there
+  -- a line that comes and has no key is blank, or a header's at or below what the edits put there, or right above a name that they put there
   abbrev pub ComesOwed : TextUnit → Type 0
-  ComesOwed w = w.kind ≡ kinds.Line → w.base ≡ None → (w.address ≡ None) ⊎ At w.address (IsOwedBelow cs)
+  ComesOwed w = w.kind ≡ kinds.Line → w.base ≡ None → (w.address ≡ None) ⊎ At w.address (IsOwedHeader cs)
 
 -- `Firm` tells when a last line of no bytes stays the last.
 module _ (Firm : Type 0) (cs : List Change) (before after : List (List ℕ)) where

@@ -7,16 +7,18 @@ use Rattle.toml_edits.specs.Edits.{Change}
 use Rattle.toml_edits.specs.Lists.{carried}
 use Rattle.toml_units.specs.declared.unit.UnitKind.TheVariants as kinds
 use Rattle.toml_units.specs.Units.{TextUnit}
+use Rattle.toml_checker.specs.declared.tables.Part.TheVariants as parts
 use Rattle.toml_checker.specs.CarriedTo.{IsCarriedTo, At}
 use Rattle.toml_checker.specs.Comments.{is_comment, texts, times, IsWritten}
 use Rattle.toml_checker.specs.Owed.{IsOwed}
-use Rattle.toml_checker.specs.Plain.{Site, site, next_line}
+use Rattle.toml_checker.specs.Plain.{Site, site, next_line, stands}
 use Rattle.toml_units.specs.Bares.{bare_unit}
 use Rattle.toml_editor.proofs.written.Way.{Step, both, old, new, olds, news, one_line, is_here}
 use Rattle.toml_editor.proofs.written.WayComments.{added, comment_more, comment_on, comments, times_cons}
 use Rattle.toml_editor.proofs.written.WayFits.{Matches, IsAsked, Fits}
 use Rattle.toml_editor.proofs.written.WayKeeps.{moved_site, Ends, StaysIf, ComesOwed, KeepsIf, kept_on, moved_on, line_moved_on, line_is, lost_on, one_carried}
-use Rattle.toml_editor.proofs.written.WayOwed.{IsOwedBelow, written_on, at_map, OwedOn, line_owed, below_carried}
+use Rattle.toml_editor.proofs.written.WayHome.{IsOwedHeader, header_later, header_on, came_owed}
+use Rattle.toml_editor.proofs.written.WayOwed.{written_on, at_map, OwedOn, line_owed}
 
 -- each line that comes is owed, where not always a last line of no bytes stays the last
 abbrev pub IsSure : Type 0 → Change → List Step → Type 0
@@ -159,9 +161,8 @@ module _ (Firm Former Later : Type 0) (former : Firm → Former) (later : Firm �
 
         goes_owed : is_here cs mid w ≡ true → At w.address (IsOwed (c ∷ [])) → At v.address (IsOwed (c ∷ cs))
         goes_owed then owed =
-            let on = line_owed c cs w.base w.address v.address (sym (line_is cs mid w line) ∙ then) (n.kept then).address owed
-            (λ none. elim (k line none) [ inl blank ↦ absurd (subst (λ o. At o (IsOwed (c ∷ []))) blank owed) | inr below ↦ below ]) in
-            on.owed
+            came_owed c cs w.base w.address v.address (sym (line_is cs mid w line) ∙ then) (n.kept then).address owed
+            (λ none. elim (k line none) [ inl blank ↦ absurd (subst (λ o. At o (IsOwed (c ∷ []))) blank owed) | inr header ↦ header ])
 
         by : (y : Bool) → is_here cs mid w ≡ y → At v.address (IsOwed (c ∷ cs))
             ⊎ ((d + 1 ≡ length after) × (v.piece.text ≡ []) × ¬ (c ∷ cs ≡ []))
@@ -187,7 +188,7 @@ module _ (Firm Former Later : Type 0) (former : Firm → Former) (later : Firm �
     new_owed : ComesOwed (c ∷ cs) before after v
     new_owed is none = elim (k line bare) [
       | inl blank ↦ inl (ap (λ (s : Site). s.address) l.goes ∙ ap (option_and_then (carried cs)) blank)
-      | inr below ↦ inr (by (is_here cs mid w) refl below)
+      | inr header ↦ inr (by (is_here cs mid w) refl header)
     ]
       where
         line : w.kind ≡ kinds.Line
@@ -196,9 +197,11 @@ module _ (Firm Former Later : Type 0) (former : Firm → Former) (later : Firm �
         bare : w.base ≡ None
         bare = ap (λ (s : Site). s.base) (sym l.goes) ∙ none
 
-        by : (y : Bool) → is_here cs mid w ≡ y → At w.address (IsOwedBelow (c ∷ [])) → At v.address (IsOwedBelow (c ∷ cs))
-        by false then below = at_map (λ e o. inr o) v.address (l.header line bare then)
-        by true then below = below_carried c cs w.address v.address (n.kept then).address below
+        by : (y : Bool) → is_here cs mid w ≡ y → At w.address (IsOwedHeader (c ∷ [])) → At v.address (IsOwedHeader (c ∷ cs))
+        by false then header = at_map (λ e o. inl (inr o)) v.address (l.header line bare then)
+        by true then header =
+            header_on c cs w.address v.address (ap (stands parts.Line cs w.address) (sym bare) ∙ sym (line_is cs mid w line) ∙ then)
+            (n.kept then).address header
 
     -- its comment was counted
     counted : (r s : List TextUnit) (t : List ℕ) (x : ℕ) → times t (texts (comments r)) ≤ times t (texts (comments s)) + x
@@ -257,7 +260,7 @@ module _ (Firm Former Later : Type 0) (former : Firm → Former) (later : Firm �
       }
 
       owed : ComesOwed cs between after v → ComesOwed (c ∷ cs) before after v
-      owed is line none = elim (is line none) [ inl blank ↦ inl blank | inr below ↦ inr (at_map (λ e o. inr o) v.address below) ]
+      owed is line none = elim (is line none) [ inl blank ↦ inl blank | inr header ↦ inr (header_later c cs v.address header) ]
 
   goes : (u : TextUnit) (s t : List Step) → GoesOn s t → GoesOn (old u ∷ s) t
   goes u s t go line mid next a b d fit keep sure fits keeps =

@@ -20,7 +20,7 @@ use Rattle.toml_checker.specs.Plain.{stands, is_named}
 use Rattle.toml_edits.specs.Sides.{side}
 
 -- what holds of an address holds of itself, where no edit carries it
-at_itself : (P : Address → Type 0) (r q : Address) → carried [] r ≡ Some q → P q → P r
+pub at_itself : (P : Address → Type 0) (r q : Address) → carried [] r ≡ Some q → P q → P r
 at_itself P r q same = subst P (sym (same_Some r q same))
 
 -- ---- along a list of edits
@@ -127,7 +127,7 @@ owes_of (remove p) r a is = absurd is
 owes_of (new_section p) r a is = inr is
 owes_of (new_element p) r a is = inr is
 
-owed_below : (cs : List Change) (a : Address) → IsOwedBelow cs a → IsOwed cs a
+pub owed_below : (cs : List Change) (a : Address) → IsOwedBelow cs a → IsOwed cs a
 owed_below [] a is = is
 owed_below (c ∷ cs) a (inl (r, to, is, goes, owes)) = inl (r, to, is, goes, owes_of c to a owes)
 owed_below (c ∷ cs) a (inr more) = inr (owed_below cs a more)
@@ -187,7 +187,7 @@ below_there (remove p) r a to b was is = was
 below_there (new_section p) r a to b was is = is
 below_there (new_element p) r a to b was is = is
 
-below_on : (c : Change) (cs : List Change) (a b : Address) → carried cs a ≡ Some b → IsOwedBelow (c ∷ []) a → IsOwedBelow (c ∷ cs) b
+pub below_on : (c : Change) (cs : List Change) (a b : Address) → carried cs a ≡ Some b → IsOwedBelow (c ∷ []) a → IsOwedBelow (c ∷ cs) b
 below_on c cs a b goes (inr none) = absurd none
 below_on c cs a b goes (inl (r, q, is, same, owes)) =
     let owes' = at_itself (λ x. OwesBelow c x a) r q same owes in
@@ -230,8 +230,3 @@ line_owed c cs None (Some a) (Some b) kept goes owed header =
     let below = below_on c cs a b goes (header refl) in record { owed = owed_below (c ∷ cs) b below; header = λ is. below }
 line_owed c cs (Some n) (Some a) (Some b) kept goes owed header =
     record { owed = owed_on c cs a b goes (λ rest. along parts.Line (Some n) tt cs a rest kept) owed; header = λ is. cc }
-
-pub below_carried : (c : Change) (cs : List Change) (o x : Option Address) → IsCarriedTo cs o x → At o (IsOwedBelow (c ∷ [])) → At x (IsOwedBelow (c ∷ cs))
-below_carried c cs None x goes below = absurd below
-below_carried c cs (Some a) None goes below = absurd goes
-below_carried c cs (Some a) (Some b) goes below = below_on c cs a b goes below

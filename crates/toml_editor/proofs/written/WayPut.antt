@@ -2,7 +2,9 @@
 use Rattle.std.proofs.Common.{◌≡◌, ◌⊎◌, inl, inr, ◌<◌, ◌+◌, ℕ, false, Option, Some, None, List, [], ◌∷◌, ◌++◌, map, length, refl, sym, ap, ap₂, ◌∙◌, subst, subst₂, true≢false, arith, append-nil}
 use Rattle.std.specs.Prelude.{slice_get, option_and_then}
 use Rattle.toml_tree.specs.Spells.{AreLines, EachIs}
-use Rattle.toml_tree.specs.Tree.{Value, Line}
+use Rattle.toml_tree.specs.Bare.{fresh}
+use Rattle.toml_tree.specs.Tree.{Piece, Value, Line}
+use Rattle.toml_names.specs.declared.model.address.Step.TheVariants.{Name}
 use Rattle.toml_names.specs.model.Addresses.{Address, child}
 use Rattle.toml_edits.specs.Carry.{carry}
 use Rattle.toml_edits.specs.Edits.{Change, insert}
@@ -14,10 +16,10 @@ use Rattle.toml_checker.specs.Owed.{IsOwed}
 use Rattle.toml_checker.specs.Plain.{Site}
 use Rattle.toml_working.specs.InsertingInTables.{insert_in}
 use Rattle.toml_working.specs.Manners.{Manner}
-use Rattle.toml_layout.specs.Spacings.{Spacing}
-use Rattle.toml_working.specs.Premises.{HasSection}
+use Rattle.toml_working.specs.Premises.{HasTable}
 use Rattle.toml_working.specs.Together.{GoTogether}
-use Rattle.toml_editor.specs.UnitBlocks.{BeginWithLine}
+use Rattle.toml_layout.specs.declared.tree.Brackets.TheVariants.{One}
+use Rattle.toml_editor.specs.UnitBlocks.{BeginWithLine, header_line_units, header_text, pair_line_units, pair_text}
 use Rattle.toml_editor.proofs.Each.{each_append}
 use Rattle.toml_editor.proofs.written.InsertKept.{inserted_on}
 use Rattle.toml_editor.proofs.written.Way.{Step, both, new, olds, news, one_line, is_here}
@@ -31,7 +33,8 @@ use Rattle.toml_editor.proofs.written.UnitsGone.{value_in}
 use Rattle.toml_names.specs.mentions.Mentions.{root}
 use Rattle.toml_editor.proofs.written.WayWhole.{HasWay, HasWayIf, as_many}
 use Rattle.toml_editor.proofs.written.WayZip.{IsNear, lost_line, no_comment_lost, carried_to, zip, lines_in, zip_olds, zip_news, zip_fits}
-use Rattle.toml_editor.proofs.written.UnitsPut.{IsPutWell, block, formed_well, puts_lines}
+use Rattle.toml_editor.proofs.written.UnitsInserted.{IsPutIn, PutBoth, PutLine, puts_lines}
+use Rattle.toml_editor.proofs.written.UnitsPut.{IsPutWell, formed_well}
 
 all_same : (us : List TextUnit) → GoTogether (λ u w. u ≡ w) us us
 all_same [] = tt
@@ -184,7 +187,7 @@ module _ (c : Change) (ts : List (List ℕ)) (block : List TextUnit) (puts : Put
 
 -- ---- of an `insert`
 
-module _ (q : Address) (name text : List ℕ) (v : Value) (s : Spacing) where
+module _ (q : Address) (name text : List ℕ) (v : Value) (piece : Piece) (base : ℕ) where
   abbrev p : Address
   p = child q name
 
@@ -199,7 +202,7 @@ module _ (q : Address) (name text : List ℕ) (v : Value) (s : Spacing) where
   owed a (inr (s, rest, is)) = inl (p, p, refl, refl, inl (s ∷ rest, is))
 
   abbrev line_block : List TextUnit
-  line_block = block q name v s
+  line_block = pair_line_units piece p base v None
 
   line_asked : (before after : List (List ℕ)) → EachIs (λ w. (k : ℕ) → IsAsked (c ∷ []) (ts ∷ []) before after k w) line_block
   line_asked before after = (
@@ -213,22 +216,52 @@ module _ (q : Address) (name text : List ℕ) (v : Value) (s : Spacing) where
     each_append _ (inside p v) [] (inner_blank c before after p (inside p v) (value_in p v p (inr refl))) tt,
   )
 
-  insert_puts : PutsLines c ts line_block
-  insert_puts = record {
+  -- whatever the block is, if it has the comments of the value
+  insert_puts : (block : List TextUnit) → 0 < lines_in block → texts (comments block) ≡ ts → PutsLines c ts block
+  insert_puts block some texts_are = record {
     stays = inserted_on q name text;
     lost = λ line u gone. (
       (λ is_line. let l = lost_line c tt line u is_line gone in subst (λ o. At o (IsOwed (c ∷ []))) (sym l.1) (owed l.0 l.2)),
       no_comment_lost c tt line u gone,
     );
     header = λ u. insert_header p text u u;
-    some = omega arith;
-    texts_are = ap (λ us. texts (comments us)) (append-nil (inside p v)) ∙ same_comments p v;
+    some = some;
+    texts_are = texts_are;
   }
 
-pub insert_way : (q : Address) (name text : List ℕ) (v : Value) (manner : Manner) (lines : List Line) → HasSection lines q → AreLines lines
+  line_texts : texts (comments line_block) ≡ ts
+  line_texts = ap (λ us. texts (comments us)) (append-nil (inside p v)) ∙ same_comments p v
+
+  line_way : (lines edited : List Line) → AreLines lines → IsPutWell (AreLines lines) (units lines) line_block (units edited) (newlines lines) (newlines edited)
+      → HasWay (c ∷ []) (ts ∷ []) lines edited
+  line_way lines edited formed =
+      put_way c ts line_block (insert_puts line_block (omega arith) line_texts) lines edited formed (line_comes (newlines lines) (newlines edited)) line_asked
+
+  -- with a new header of the table, which is owed right above it
+  abbrev header_and_line : Piece → List TextUnit
+  header_and_line header = header_line_units header q ++ line_block
+
+  both_way : (header : Piece) (lines edited : List Line) → AreLines lines
+      → IsPutWell (AreLines lines) (units lines) (header_and_line header) (units edited) (newlines lines) (newlines edited) → HasWay (c ∷ []) (ts ∷ []) lines edited
+  both_way header lines edited formed =
+      put_way c ts (header_and_line header) (insert_puts (header_and_line header) (omega arith) line_texts) lines edited formed
+      ((λ is none. inr (inr (inl (p, p, refl, refl, (name, refl))))), line_comes (newlines lines) (newlines edited))
+      (λ before after. (
+        (λ k. record { line = λ is. inl (owed q (inr (Name name, [], refl))); comment = λ is. absurd (true≢false (sym is)) }),
+        line_asked before after,
+      ))
+
+pub insert_way : (q : Address) (name text : List ℕ) (v : Value) (manner : Manner) (lines : List Line) → HasTable lines q → AreLines lines
     → HasWay (insert (child q name) text ∷ []) (texts (comments (inside [] v)) ∷ []) lines (insert_in q name v manner lines)
-insert_way q name text v manner lines there formed =
-    let (s, plain, well) = puts_lines q name v manner lines there in
-    let edited = insert_in q name v manner lines in
-    put_way (insert (child q name) text) (texts (comments (inside [] v))) (block q name v s) (insert_puts q name text v s) lines edited formed
-    (line_comes q name text v s (newlines lines) (newlines edited)) (line_asked q name text v s) well
+insert_way q name text v manner lines there formed = by (puts_lines q name v manner lines there)
+  where
+    edited : List Line
+    edited = insert_in q name v manner lines
+
+    by : IsPutIn q name v manner lines edited → HasWay (insert (child q name) text ∷ []) (texts (comments (inside [] v)) ∷ []) lines edited
+    by (PutLine at first rest same s plain well) =
+        line_way q name text v (fresh (pair_text s (first ∷ rest) v)) (length at) lines edited formed
+        (subst (λ a. IsPutWell (AreLines lines) (units lines) (pair_line_units (fresh (pair_text s (first ∷ rest) v)) a (length at) v None) (units edited) (newlines lines) (newlines edited))
+        (sym same) well)
+    by (PutBoth ws s plain well) =
+        both_way q name text v (fresh (pair_text s (name ∷ []) v)) (length q) (fresh (header_text One ws q)) lines edited formed well

@@ -8,7 +8,7 @@ use Rattle.toml_layout.specs.Opening.{OpensText}
 use Rattle.toml_working.specs.HeldLines.{PutsInValue}
 use Rattle.toml_working.specs.Parents.{IsParent}
 use Rattle.toml_working.specs.Putting.{InsertsLines, manner}
-use Rattle.toml_working.specs.Sections.{TreePutsBelow}
+use Rattle.toml_working.specs.InTables.{TreePutsIn}
 use Rattle.toml_working.specs.Starting.{read_of}
 use Rattle.toml_layout.specs.TreeOutlines.{value_outline}
 use Rattle.toml_editor.proofs.making.write_insert.Goals as goal
@@ -73,9 +73,9 @@ returns-in_ok-named-in-Some-clause-below c =
     let (w, of_text, outlined) = subst (OpensText c.args.read.profile c.args.value.now) c.in-Some.is c.in_ok-new.ensures in
     on_ok_weaker c.insert.result
     (λ puts within v is q last split.
-    subst₂ (λ r o. TreePutsBelow r p steps o read old c.insert.new.self)
+    subst₂ (λ r o. TreePutsIn r p steps o read old c.insert.new.self)
     (parent_is p q c.in_ok-parent-in-Some.parent last c.in_ok-parent-in-Some.ensures split)
-    (outlined ∙ ap value_outline (one_value w v 0 c.args.value.now of_text.0 is.0)) puts)
+    (outlined ∙ ap value_outline (one_value w v 0 c.args.value.now of_text.0 is.0)) puts.header)
     c.insert.ensures.below
 
 pub returns-in-None-clause-below : goal.returns-in-None-clause-below

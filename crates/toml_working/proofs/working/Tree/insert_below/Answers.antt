@@ -1,12 +1,14 @@
 use Rattle.std.proofs.Common.{◌≡◌, true, subst, sym}
-use Rattle.std.proofs.lemmas.Result.{IfOk-weaker, on_ok_weaker}
+use Rattle.std.proofs.lemmas.Result.{IfOk-weaker}
 use Rattle.toml_text.specs.Source.{text_of}
 use Rattle.toml_layout.specs.Holding.{PutsHeld}
 use Rattle.toml_layout.specs.declared.changing.Inside.TheVariants as changes
 use Rattle.toml_working.specs.Seeing.{FindsHolder}
 use Rattle.toml_working.specs.Standing.{holds}
 use Rattle.toml_working.specs.Starting.{read_of}
-use Rattle.toml_working.proofs.Answered.{if_ok_always, on_ok_always}
+use Rattle.toml_working.proofs.Answered.{if_ok_always, if_ok_three, on_ok_always}
+use Rattle.toml_working.specs.declared.lines.Sought.TheVariants.{Dotted, Header, HeaderBelow}
+use Rattle.toml_working.proofs.Alone.{below_is, dotted_is, heads_is}
 use Rattle.toml_working.proofs.Sectioned.{never_held}
 use Rattle.toml_working.proofs.AtPlace.{holder_at}
 use Rattle.toml_working.proofs.HeldLines.{child_held, line_held, not_held}
@@ -37,11 +39,26 @@ pub returns-in-Some-clause-below : goal.returns-in-Some-clause-below
 returns-in-Some-clause-below c =
     let read = read_of c.args.before in
     let tree = c.args.self.now in
+    let text = text_of tree.texts.source in
+    let slots = tree.slots.items in
+    let place = c.in-Some.place in
     let parent = c.args.parent.now in
-    let found = subst (FindsHolder parent c.args.before.units.now tree.slots.items) c.in-Some.is c.value_line.ensures.0 read.lines in
-    on_ok_always _ c.change_value.result (λ not_root name named ss stands ordered headed.
-    absurd (never_held parent (text_of tree.texts.source) read tree.slots.items c.in-Some.place found ss stands ordered headed))
+    let found = subst (FindsHolder parent c.args.before.units.now slots) c.in-Some.is c.value_line.ensures.0 read.lines in
+    on_ok_always _ c.change_value.result record {
+      header = λ not_root name named ss stands ordered headed.
+          absurd (never_held Header parent text read slots place (λ f. heads_is parent f.base f.address) found ss stands ordered headed.header);
+      dotted = λ name at_is spellings ss stands ordered dotted.
+          absurd (never_held Dotted parent text read slots place (λ f. dotted_is parent f.base f.address) found ss stands ordered dotted.dotted);
+      implied = λ not_root name at_is spellings ss stands ordered implied.
+          absurd (never_held HeaderBelow parent text read slots place (λ f. below_is parent f.base f.address) found ss stands ordered implied.below);
+    }
 
 pub returns-in-None-clause-below : goal.returns-in-None-clause-below
 returns-in-None-clause-below c =
-    on_ok_weaker c.insert_line.result (λ inserts not_root name named ss stands ordered headed. inserts name named ss stands headed) c.insert_line.ensures.below
+    if_ok_three _ _ _ _ c.insert_line.result
+    (λ done inserts dotted implied. record {
+      header = λ not_root name named ss stands ordered headed. inserts name named ss stands headed;
+      dotted = dotted;
+      implied = implied;
+    })
+    c.insert_line.ensures.below c.insert_line.ensures.dotted c.insert_line.ensures.implied

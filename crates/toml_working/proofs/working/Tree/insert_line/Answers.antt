@@ -1,10 +1,14 @@
-use Rattle.std.proofs.Common.{◌∙◌, refl, sym, subst}
+use Rattle.std.proofs.Common.{◌∙◌, ap, arith, refl, sym, subst}
+use Rattle.std.specs.List.{list_any}
 use Rattle.std.proofs.lemmas.Option.{same_Some}
 use Rattle.std.proofs.lemmas.Result.{on_ok_weaker}
 use Rattle.toml_layout.specs.OpenOutlines.{value}
 use Rattle.toml_working.specs.Putting.{manner}
-use Rattle.toml_working.specs.Seeing.{IsHeaderPlace, IsTableLine}
+use Rattle.toml_working.specs.Seeing.{IsHeaderPlace, IsTableLine, is_sought_line}
 use Rattle.toml_working.specs.Starting.{read_of}
+use Rattle.toml_working.specs.TablePlaces.{IsImpliedPlace}
+use Rattle.toml_working.specs.declared.lines.Sought.TheVariants.{Dotted, Header, HeaderBelow}
+use Rattle.toml_working.proofs.DottedPut.{puts_dotted}
 use Rattle.toml_working.proofs.Sectioned.{puts_below}
 use Rattle.toml_working.proofs.working.Tree.insert_line.Goals as goal
 
@@ -26,3 +30,37 @@ returns-in-Some-Header-clause-below c =
     ))
     (c.last_of_section-last.ensures read.lines) c.unwrap_or.ensures)
     c.insert_in_section.ensures.put
+
+pub returns-in-Some-Dotted-clause-dotted : goal.returns-in-Some-Dotted-clause-dotted
+returns-in-Some-Dotted-clause-dotted c =
+    let it = c.args.insertion in
+    let tree = c.args.self.now in
+    let q = c.args.parent.now in
+    let read = read_of c.args.before in
+    on_ok_weaker c.insert_in_section-in-Some-Dotted.result
+    (puts_dotted q it.at.now it.spelled.now (value it.new) read c.in-Some-Dotted.line c.table_end-behind.result tree c.insert_in_section-in-Some-Dotted.new.self
+    c.in-Some.above.now c.split_at.result.0.now c.in-Some.last.now c.base-base.result c.min.result
+    (sym c.steps.ensures ∙ c.in-Some.ensures.cases.0)
+    (c.base-base.ensures read.lines)
+    (λ low. omega (arith, low, c.min.ensures))
+    c.split_at.ensures.front
+    (λ no_header dotted.
+    let (place, is, low) = c.in-Some-Dotted.ensures.dotted read.lines no_header dotted in
+    subst (IsTableLine q read tree.slots.items) c.in-Some-Dotted.field-0-is (c.in-Some-Dotted.ensures.finds read.lines))
+    (c.table_end-behind.ensures read.lines))
+    c.insert_in_section-in-Some-Dotted.ensures.put
+
+pub returns-in-Some-Implicit-clause-implied : goal.returns-in-Some-Implicit-clause-implied
+returns-in-Some-Implicit-clause-implied c =
+    let tree = c.args.self.now in
+    let q = c.args.parent.now in
+    let read = read_of c.args.before in
+    on_ok_weaker c.insert_before.result
+    (λ puts not_root name at_is spellings ss stands ordered implied.
+    let (place, is, first) = c.in-Some-Implicit.ensures.implied read.lines
+    (ap (list_any (is_sought_line Header q)) stands.are ∙ implied.no_header) (ap (list_any (is_sought_line Dotted q)) stands.are ∙ implied.no_dotted)
+    (ap (list_any (is_sought_line HeaderBelow q)) stands.are ∙ implied.below) in
+    puts name at_is spellings ss stands
+    (subst (IsTableLine q read tree.slots.items) c.in-Some-Implicit.field-0-is (c.in-Some-Implicit.ensures.finds read.lines))
+    (subst (IsImpliedPlace q read tree.slots.items) (sym (same_Some _ _ is) ∙ c.in-Some-Implicit.field-0-is) first))
+    c.insert_before.ensures.put

@@ -1,4 +1,4 @@
-use Rattle.std.proofs.Common.{◌≡◌, ◌∙◌, ℕ, Some, ap, arith, length}
+use Rattle.std.proofs.Common.{◌≡◌, ◌∙◌, Some, ap, arith, length}
 use Rattle.toml_layout.specs.OpenOutlines.{leaf_text, value}
 use Rattle.toml_working.proofs.Answered.{if_ok_three}
 use Rattle.toml_names.specs.mentions.Keys.{Key}
