@@ -35,6 +35,11 @@ standing_behind (l ∷ a) b before =
     (next ∙ standing_behind a b (before ++ l ∷ [])
     ∙ ap₂ (λ x bs. x ++ standing_from (named bs) (length bs) b) back (append_assoc before (l ∷ []) a))
 
+-- so they are behind one
+pub standing_next : (before : List Line) (l : Line) (ls : List Line) → standing_from (named before ++ named_by (named before) (length before) l.expr) (length before + 1) ls
+    ≡ standing_from (named (before ++ l ∷ [])) (length (before ++ l ∷ [])) ls
+standing_next before l ls = ap₂ (λ xs k. standing_from xs k ls) (sym (named_next before l)) (sym (length-append before (l ∷ [])))
+
 -- a key stands on it
 abbrev pub IsKeyed : Expr → Type 0
 IsKeyed (KeyValLine ws pair tail) = Unit {0}
@@ -207,7 +212,7 @@ module _ (q : Address) (name : List ℕ) (v : Value) (manner : Manner) where
     where
       next : list_any (is_sought_line sought.Header q) (standing_from (named before ++ named_by (named before) (length before) l.expr) (length before + 1) ls)
           ≡ list_any (is_sought_line sought.Header q) (standing_from (named (before ++ l ∷ [])) (length (before ++ l ∷ [])) ls)
-      next = ap₂ (λ xs k. list_any (is_sought_line sought.Header q) (standing_from xs k ls)) (sym (named_next before l)) (sym (length-append before (l ∷ [])))
+      next = ap (list_any (is_sought_line sought.Header q)) (standing_next before l ls)
 
       by : (b : Bool) → lines.is_header_of q before l ≡ b
           → (b || list_any (is_sought_line sought.Header q) (standing_from (named before ++ named_by (named before) (length before) l.expr) (length before + 1) ls)) ≡ true

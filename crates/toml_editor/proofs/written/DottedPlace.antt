@@ -1,5 +1,5 @@
 -- Where the new line of an `insert` in a table that dotted keys make stands.
-use Rattle.std.proofs.Common.{◌≡◌, ◌∙◌, ℕ, ◌+◌, Bool, true, false, ◌||◌, List, [], ◌∷◌, ◌++◌, length, length-append, refl, sym, ap, ap₂, subst, subst₂, true≢false, append_assoc, append-nil}
+use Rattle.std.proofs.Common.{◌≡◌, ◌∙◌, ℕ, ◌+◌, Bool, true, false, ◌||◌, List, [], ◌∷◌, ◌++◌, length, refl, sym, ap, subst, subst₂, true≢false, append_assoc, append-nil}
 use Rattle.std.specs.List.{list_any}
 use Rattle.std.proofs.lemmas.Bool.{cond-true, cond-false}
 use Rattle.toml_tree.specs.Spells.{EachIs}
@@ -21,7 +21,7 @@ use Rattle.toml_working.specs.Premises.{HasDotted}
 use Rattle.toml_working.specs.Seeing.{is_sought_line}
 use Rattle.toml_working.specs.Standing.{line_stands, standing_from}
 use Rattle.toml_editor.proofs.written.Alike.{section_pair}
-use Rattle.toml_editor.proofs.written.BelowPlace.{IsKeyed}
+use Rattle.toml_editor.proofs.written.BelowPlace.{IsKeyed, standing_next}
 use Rattle.toml_editor.proofs.written.DocumentSections.{named_next}
 use Rattle.toml_editor.proofs.written.DottedKeys.{Makes, child_below, key_behind_is, maker_keys}
 use Rattle.toml_editor.proofs.written.FreshKeys.{HasNames}
@@ -91,7 +91,8 @@ module _ (layout : Layout) (s q : Address) where
   pair_keyed : (l : Line) (ls : List Line) → has_pair (l ∷ ls) ≡ true → has_pair ls ≡ false → IsKeyed l.expr
   pair_keyed l ls is none = by l.expr is
     where
-      by : (e : Expr) → elim e [ BlankLine b ↦ has_pair ls | KeyValLine ws pair tail ↦ true | TableLine ws header tail ↦ false | ArrayTableLine ws header tail ↦ false ] ≡ true → IsKeyed e
+      by : (e : Expr) → elim e [ BlankLine b ↦ has_pair ls | KeyValLine ws pair tail ↦ true | TableLine ws header tail ↦ false | ArrayTableLine ws header tail ↦ false ] ≡ true
+          → IsKeyed e
       by (BlankLine b) h = absurd (true≢false (sym h ∙ none))
       by (KeyValLine ws pair tail) h = tt
       by (TableLine ws header tail) h = absurd (true≢false (sym h))
@@ -312,7 +313,7 @@ module _ (q : Address) (name : List ℕ) (v : Value) (manner : Manner) where
     where
       next : list_any (is_sought_line sought.Dotted q) (standing_from (named before ++ named_by (named before) (length before) l.expr) (length before + 1) ls)
           ≡ list_any (is_sought_line sought.Dotted q) (standing_from (named (before ++ l ∷ [])) (length (before ++ l ∷ [])) ls)
-      next = ap₂ (λ xs k. list_any (is_sought_line sought.Dotted q) (standing_from xs k ls)) (sym (named_next before l)) (sym (length-append before (l ∷ [])))
+      next = ap (list_any (is_sought_line sought.Dotted q)) (standing_next before l ls)
 
       by : (b : Bool) → is_maker_of q before l ≡ b
           → (b || list_any (is_sought_line sought.Dotted q) (standing_from (named before ++ named_by (named before) (length before) l.expr) (length before + 1) ls)) ≡ true

@@ -10,7 +10,6 @@ use Rattle.toml_names.specs.mentions.Mentions.{Named, count_tables, named, named
 use Rattle.toml_names.specs.model.Addresses.{Address}
 use Rattle.toml_names.specs.reader.Names.{own_address}
 use Rattle.toml_units.specs.Units.{line_base}
-use Rattle.toml_layout.specs.NewKeys.{bare_part}
 use Rattle.toml_layout.specs.Outlines as outline
 use Rattle.toml_layout.specs.Outlines.{DottedOutline, LineOutline}
 use Rattle.toml_layout.specs.TreeOutlines.{dotted_outline, line_outline}
@@ -18,7 +17,7 @@ use Rattle.toml_layout.specs.TreeOutlines as trees
 use Rattle.toml_layout.specs.OpenOutlines.{closing_brackets, opening_brackets}
 use Rattle.toml_layout.specs.declared.tree.Brackets.{Brackets}
 use Rattle.toml_layout.specs.declared.tree.Brackets.TheVariants.{One, Two}
-use Rattle.toml_working.specs.FreshKeys.{dotted_name, key_named}
+use Rattle.toml_working.specs.FreshKeys.{key_named}
 use Rattle.toml_working.specs.Heading.{Shown, header_expr, header_line, shown, shown_from}
 use Rattle.toml_working.specs.Headers.{has_below, has_no_bytes, header_outline, inner_of, innermost, names_of, new_header, put_plainly}
 use Rattle.toml_working.specs.Headers as headers

@@ -54,8 +54,11 @@ implied_is q (Some n) own is = absurd (true≢false (sym is))
 implied_is q None None is = absurd (true≢false (sym is))
 implied_is q None (Some a) is = let (n, rest, at) = child_is q a is in (refl, n, rest, ap Some at)
 
+abbrev pub is_implying : Address → Standing → Bool
+is_implying q s = implies q s.base s.address
+
 -- it is one at the table or below it
-pub implied_below : (q : Address) (s : Standing) → implies q s.base s.address ≡ true → is_sought_line sought.HeaderBelow q s ≡ true
+pub implied_below : (q : Address) (s : Standing) → is_implying q s ≡ true → is_sought_line sought.HeaderBelow q s ≡ true
 implied_below q s is =
     let (base, n, rest, own) = implied_is q s.base s.address is in
     ap₂ (heads_below q) base own ∙ begins_longer q (Name n ∷ rest)
@@ -99,7 +102,7 @@ module _ (q : Address) (lines : List Line) (some : ¬ (q ≡ [])) (has : HasImpl
   ]
 
   module _ (front back : List Line) (l : Line) (is : lines ≡ front ++ l ∷ back) (below : is_sought_line sought.HeaderBelow q (line_stands (named front) l) ≡ true)
-      (none : list_any (λ (s : Standing). implies q s.base s.address) (standing front) ≡ false) where
+      (none : list_any (is_implying q) (standing front) ≡ false) where
     abbrev xs : List Named
     xs = named front
 
@@ -111,10 +114,10 @@ module _ (q : Address) (lines : List Line) (some : ¬ (q ≡ [])) (has : HasImpl
 
     -- where the line is the header of an element, no header below the table by a name is behind it
     not_element : (i : ℕ) (rest : Address) → own_address xs l.expr ≡ Some (q ++ Index i ∷ rest)
-        → list_any (λ (s : Standing). implies q s.base s.address) (standing_from (xs ++ named_by xs (length front) l.expr) (length front + 1) back) ≡ true → ⊥
+        → list_any (is_implying q) (standing_from (xs ++ named_by xs (length front) l.expr) (length front + 1) back) ≡ true → ⊥
     not_element i rest own there =
         let next = front ++ l ∷ [] in
-        let one = among_of (λ (s : Standing). implies q s.base s.address)
+        let one = among_of (is_implying q)
         (standing_from (xs ++ named_by xs (length front) l.expr) (length front + 1) back) there in
         let at = line_of one.front back next one.line one.back
         (ap₂ (λ ys k. standing_from ys k back) (named_next front l) (length-append front (l ∷ [])) ∙ one.is) in
@@ -132,9 +135,9 @@ module _ (q : Address) (lines : List Line) (some : ¬ (q ≡ [])) (has : HasImpl
     first_passes = by (implies q (line_base xs l.expr) (own_address xs l.expr)) refl
       where
         rest_implied : implies q (line_base xs l.expr) (own_address xs l.expr) ≡ false
-            → list_any (λ (s : Standing). implies q s.base s.address) (standing_from (xs ++ named_by xs (length front) l.expr) (length front + 1) back) ≡ true
+            → list_any (is_implying q) (standing_from (xs ++ named_by xs (length front) l.expr) (length front + 1) back) ≡ true
         rest_implied lacks =
-            let test = λ (s : Standing). implies q s.base s.address in
+            let test = is_implying q in
             let behind = standing_from (xs ++ named_by xs (length front) l.expr) (length front + 1) back in
             sym (ap₂ (λ a b. a || (b || list_any test behind)) none lacks)
             ∙ sym (list_any-append test (standing front) (line_stands xs l ∷ behind)) ∙ ap (list_any test) (sym whole) ∙ has.implied
@@ -143,7 +146,8 @@ module _ (q : Address) (lines : List Line) (some : ¬ (q ≡ [])) (has : HasImpl
         other lacks a [] own at =
             let header : is_sought_line sought.Header q (line_stands xs l) ≡ true =
             ap₂ (heads q) base (own ∙ ap Some (at ∙ append-nil q)) ∙ self q in
-            absurd (true≢false (sym (ap (list_any (is_sought_line sought.Header q)) whole ∙ any_at (is_sought_line sought.Header q) (standing front) (line_stands xs l) _ header) ∙ has.no_header))
+            let heads_it = is_sought_line sought.Header q in
+            absurd (true≢false (sym (ap (list_any heads_it) whole ∙ any_at heads_it (standing front) (line_stands xs l) _ header) ∙ has.no_header))
         other lacks a (Name n ∷ rest) own at = absurd (true≢false (sym (ap₂ (implies q) base (own ∙ ap Some at) ∙ child_there q rest n) ∙ lacks))
         other lacks a (Index i ∷ rest) own at = absurd (not_element i rest (own ∙ ap Some at) (rest_implied lacks))
 
@@ -155,7 +159,8 @@ module _ (q : Address) (lines : List Line) (some : ¬ (q ≡ [])) (has : HasImpl
   pub leads_so : (front : List Line) (ws : List ℕ) → Passes front → own_address (named front) (header_expr One q ws) ≡ Some q
   leads_so front ws passed = by (names_of q) refl passed.0
     where
-      by : (names : Key) → names_of q ≡ names → header_end (named front) [] (names_of q) ≡ q → Some (header_end (named front) [] (key_names (key_named (names_of q)))) ≡ Some q
+      by : (names : Key) → names_of q ≡ names → header_end (named front) [] (names_of q) ≡ q
+          → Some (header_end (named front) [] (key_names (key_named (names_of q)))) ≡ Some q
       by [] none leads = absurd (some (sym leads ∙ ap (header_end (named front) []) none))
       by (n ∷ ns) are leads =
           ap (λ k. Some (header_end (named front) [] (key_names (key_named k)))) are ∙ ap (λ k. Some (header_end (named front) [] k)) (key_again n ns)

@@ -1,5 +1,5 @@
 -- Where the new header and the line behind it stand that an `insert` puts in for a table which longer headers alone imply.
-use Rattle.std.proofs.Common.{◌≡◌, ◌∙◌, inl, ℕ, ◌+◌, Bool, true, false, ◌||◌, Option, Some, None, List, [], ◌∷◌, ◌++◌, length, refl, sym, ap, ap₂, subst, true≢false, append_assoc}
+use Rattle.std.proofs.Common.{◌≡◌, ◌∙◌, inl, ℕ, Bool, true, false, ◌||◌, Option, Some, None, List, [], ◌∷◌, ◌++◌, length, refl, sym, ap, ap₂, subst, true≢false, append_assoc}
 use Rattle.std.specs.List.{list_any}
 use Rattle.std.proofs.lemmas.Bool.{cond-false}
 use Rattle.std.proofs.lemmas.List.{map-append}
@@ -40,7 +40,7 @@ use Rattle.toml_editor.proofs.written.ImpliedSplit.{IsScanned, IsWsOf, LeadsTo, 
 use Rattle.toml_editor.proofs.written.InsertSpaced.{IsSpacing, front_spaced, laid_spaced, line_formed}
 use Rattle.toml_editor.proofs.written.InsertStands.{has_same}
 use Rattle.toml_editor.proofs.written.UnitsAlike.{own_alike}
-use Rattle.toml_editor.proofs.written.ImpliedHeaders.{any_weaker, first_passes, implied_below, leads_so, none_front}
+use Rattle.toml_editor.proofs.written.ImpliedHeaders.{any_weaker, first_passes, implied_below, is_implying, leads_so, none_front}
 
 -- ---- the place
 
@@ -111,7 +111,7 @@ comments_headless (c ∷ cs) bare = (by c.1.base c.1.address bare.0, comments_he
 
 -- nor is one of them implied by one
 comments_imply_none : (q : Address) (cs : List Shown) → EachIs (λ (x : Shown). is_bare x.1.base x.1.address ≡ true) cs
-    → list_any (λ (s : Standing). implies q s.base s.address) (stand_of cs) ≡ false
+    → list_any (is_implying q) (stand_of cs) ≡ false
 comments_imply_none q [] bare = refl
 comments_imply_none q (c ∷ cs) bare = ap₂ (λ a b. a || b) (by c.1.base c.1.address bare.0) (comments_imply_none q cs bare.1)
   where
@@ -174,18 +174,19 @@ module _ (q : Address) (name : List ℕ) (v : Value) (manner : Manner) (lines : 
   here = let x = (parts (it.first ++ lead.comments) (lead.head ∷ lead.rest) lines [] outer).back_stands in cc
 
   -- no header below the table is in front
-  none_implied : list_any (λ (s : Standing). implies q s.base s.address) (standing before) ≡ false
+  none_implied : list_any (is_implying q) (standing before) ≡ false
   none_implied =
-      let test = λ (s : Standing). implies q s.base s.address in
-      ap (list_any test) ((parts (it.first ++ lead.comments) (lead.head ∷ lead.rest) lines [] outer).front_stands ∙ map-append (λ (x : Shown). x.1) it.first lead.comments)
+      let test = is_implying q in
+      let stands = (parts (it.first ++ lead.comments) (lead.head ∷ lead.rest) lines [] outer).front_stands in
+      ap (list_any test) (stands ∙ map-append (λ (x : Shown). x.1) it.first lead.comments)
       ∙ list_any-append test (stand_of it.first) (stand_of lead.comments)
       ∙ ap₂ (λ a b. a || b) (first (list_any test (stand_of it.first)) refl) (comments_imply_none q lead.comments lead.bare)
     where
-      first : (b : Bool) → list_any (λ (s : Standing). implies q s.base s.address) (stand_of it.first) ≡ b
-          → list_any (λ (s : Standing). implies q s.base s.address) (stand_of it.first) ≡ false
+      first : (b : Bool) → list_any (is_implying q) (stand_of it.first) ≡ b
+          → list_any (is_implying q) (stand_of it.first) ≡ false
       first false is = is
       first true is =
-          absurd (true≢false (sym (any_weaker (λ (s : Standing). implies q s.base s.address) (is_sought_line sought.HeaderBelow q) (implied_below q) (stand_of it.first) is) ∙ it.none))
+          absurd (true≢false (sym (any_weaker (is_implying q) (is_sought_line sought.HeaderBelow q) (implied_below q) (stand_of it.first) is) ∙ it.none))
 
   -- comment lines leave what was named before them alike
   before_alike : AreAlike (named front) (named before)
@@ -258,7 +259,7 @@ pub ahead_place : (q : Address) (name : List ℕ) (v : Value) (manner : Manner) 
 ahead_place [] name v manner lines some has = absurd (some refl)
 ahead_place (t ∷ q) name v manner lines some has =
     let at = t ∷ q in
-    let below = any_weaker (λ (s : Standing). implies at s.base s.address) (is_sought_line sought.HeaderBelow at) (implied_below at) (standing lines) has.implied in
+    let below = any_weaker (is_implying at) (is_sought_line sought.HeaderBelow at) (implied_below at) (standing lines) has.implied in
     let it = scanned at name v manner (shown lines) [] (ap (has_below at) (shown_stands lines (root ∷ []) 0) ∙ below) in
     subst (IsPutAhead at name v manner lines) (sym (cond-false _ _ _ has.no_header ∙ cond-false _ _ _ has.no_dotted))
     (place_is at name v manner lines some has it (lead_to at manner.layout (it.head ∷ it.rest) it.lead))

@@ -15,14 +15,13 @@ use Rattle.toml_working.specs.Inserting.{new_line}
 use Rattle.toml_working.specs.InsertingInTables.{insert_in}
 use Rattle.toml_working.specs.InsertStanding.{new_standing_in}
 use Rattle.toml_working.specs.Manners.{Manner}
-use Rattle.toml_working.specs.Premises.{implies}
 use Rattle.toml_working.specs.Seeing.{is_sought_line}
 use Rattle.toml_working.specs.Standing.{Standing, standing, standing_from}
 use Rattle.toml_editor.specs.StandingLaws.{ImpliedIsBelow, InsertStandsAhead}
 use Rattle.toml_editor.proofs.written.BelowPlace.{standing_behind}
 use Rattle.toml_editor.proofs.written.DocumentSections.{named_next}
 use Rattle.toml_editor.proofs.written.HeaderStood.{header_stood, others_stand}
-use Rattle.toml_editor.proofs.written.ImpliedHeaders.{any_weaker, implied_below}
+use Rattle.toml_editor.proofs.written.ImpliedHeaders.{any_weaker, implied_below, is_implying}
 use Rattle.toml_editor.proofs.written.ImpliedPlace.{IsPutAhead, ahead_place}
 use Rattle.toml_editor.proofs.written.PutStands.{new_first}
 
@@ -30,7 +29,7 @@ use Rattle.toml_editor.proofs.written.PutStands.{new_first}
 pub implied_is_below : ImpliedIsBelow
 implied_is_below q lines has = record {
   below =
-      any_weaker (λ (s : Standing). implies q s.base s.address) (is_sought_line sought.HeaderBelow q) (implied_below q) (standing lines) has.implied;
+      any_weaker (is_implying q) (is_sought_line sought.HeaderBelow q) (implied_below q) (standing lines) has.implied;
   no_header = has.no_header;
   no_dotted = has.no_dotted;
 }

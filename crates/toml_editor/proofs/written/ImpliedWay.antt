@@ -16,11 +16,11 @@ use Rattle.toml_units.specs.Units.{line_base}
 use Rattle.toml_working.specs.declared.lines.Sought.TheVariants as sought
 use Rattle.toml_working.specs.Headers.{names_of}
 use Rattle.toml_working.specs.Seeing.{heads, is_sought_line}
-use Rattle.toml_working.specs.Standing.{line_stands, standing, standing_from}
+use Rattle.toml_working.specs.Standing.{Standing, line_stands, standing, standing_from}
+use Rattle.toml_editor.proofs.written.BelowPlace.{standing_next}
 use Rattle.toml_editor.proofs.written.Clear.{same_is, self}
 use Rattle.toml_editor.proofs.written.Closed.{no_end}
 use Rattle.toml_editor.proofs.written.Counted.{count_array, count_next, count_none, count_pair, count_table, last_or_earlier, one_if}
-use Rattle.toml_editor.proofs.written.DocumentSections.{named_next}
 use Rattle.toml_editor.proofs.written.HeaderCounted.{Enters, enters}
 use Rattle.toml_editor.proofs.written.HeaderNamed.{end_behind_name}
 use Rattle.toml_editor.proofs.written.HeadersAlone.{is_less}
@@ -173,9 +173,16 @@ module _ (xs : List Named) where
 
 -- ---- the last element has a header
 
+or_true : (b : Bool) → (b || true) ≡ true
+or_true true = refl
+or_true false = refl
+
 -- a line counts nothing, or is the header of the next element
-line_counts : (xs : List Named) (n : ℕ) (e : Expr) (r : Address) → (count_tables (named_by xs n e) r ≡ 0)
+abbrev Counts : List Named → ℕ → Expr → Address → Type 0
+Counts xs n e r = (count_tables (named_by xs n e) r ≡ 0)
     ⊎ ((heads (element r (count_tables xs r)) (line_base xs e) (own_address xs e) ≡ true) × (count_tables (named_by xs n e) r ≡ 1))
+
+line_counts : (xs : List Named) (n : ℕ) (e : Expr) (r : Address) → Counts xs n e r
 line_counts xs n (BlankLine b) r = inl refl
 line_counts xs n (KeyValLine ws pair tail) r = inl (count_pair n (section xs) pair.assign pair.value r)
 line_counts xs n (TableLine ws header tail) r = inl (count_table xs n r (part_name header.key.first) (rest_names header.key.rest))
@@ -184,56 +191,51 @@ line_counts xs n (ArrayTableLine ws header tail) r = by (same_address at r) refl
     at : Address
     at = header_end xs [] (key_names header.key)
 
-    by : (b : Bool) → same_address at r ≡ b → (count_tables (named_by xs n (ArrayTableLine ws header tail)) r ≡ 0)
-        ⊎ ((same_address (element at (count_tables xs at)) (element r (count_tables xs r)) ≡ true) × (count_tables (named_by xs n (ArrayTableLine ws header tail)) r ≡ 1))
+    by : (b : Bool) → same_address at r ≡ b → Counts xs n (ArrayTableLine ws header tail) r
     by true same = inr (
       ap (λ a. same_address (element a (count_tables xs a)) (element r (count_tables xs r))) (same_is at r same) ∙ self (element r (count_tables xs r)),
       count_array xs n r (part_name header.key.first) (rest_names header.key.rest) ∙ ap one_if same,
     )
     by false other = inl (count_array xs n r (part_name header.key.first) (rest_names header.key.rest) ∙ ap one_if other)
 
-headed_from : (r : Address) (i : ℕ) (ls before : List Line) → count_tables (named before) r ≤ i → count_tables (named (before ++ ls)) r ≡ i + 1
-    → list_any (is_sought_line sought.Header (element r i)) (standing_from (named before) (length before) ls) ≡ true
-headed_from r i [] before low is =
-    let e = ap (λ bs. count_tables (named bs) r) (append-nil before) in absurd (omega (arith, e, low, is))
-headed_from r i (l ∷ ls) before low is = by (line_counts (named before) (length before) l.expr r) (λ h. headed_from r i ls (before ++ l ∷ []) h more)
-  where
-    head : Bool
-    head = is_sought_line sought.Header (element r i) (line_stands (named before) l)
+module _ (r : Address) (i : ℕ) where
+  abbrev has_header : List Standing → Bool
+  has_header = list_any (is_sought_line sought.Header (element r i))
 
-    more : count_tables (named ((before ++ l ∷ []) ++ ls)) r ≡ i + 1
-    more = ap (λ bs. count_tables (named bs) r) (append_assoc before (l ∷ []) ls) ∙ is
+  abbrev standing_over : List Line → List Line → List Standing
+  standing_over before ls = standing_from (named before) (length before) ls
 
-    next : count_tables (named (before ++ l ∷ [])) r ≡ count_tables (named before) r + count_tables (named_by (named before) (length before) l.expr) r
-    next = count_next before l r
+  -- a line before which the array has no more tables than the index is the element's header, or one behind it is, where it has one more there
+  headed_next : (before : List Line) (l : Line) (ls : List Line) → count_tables (named before) r ≤ i
+      → (count_tables (named (before ++ l ∷ [])) r ≤ i → has_header (standing_over (before ++ l ∷ []) ls) ≡ true)
+      → has_header (line_stands (named before) l ∷ standing_over (before ++ l ∷ []) ls) ≡ true
+  headed_next before l ls low more = by (line_counts xs (length before) l.expr r)
+    where
+      xs : List Named
+      xs = named before
 
-    Found : Type 0
-    Found = (head || list_any (is_sought_line sought.Header (element r i)) (standing_from (named before ++ named_by (named before) (length before) l.expr) (length before + 1) ls)) ≡ true
+      next : count_tables (named (before ++ l ∷ [])) r ≡ count_tables xs r + count_tables (named_by xs (length before) l.expr) r
+      next = count_next before l r
 
-    later : list_any (is_sought_line sought.Header (element r i)) (standing_from (named (before ++ l ∷ [])) (length (before ++ l ∷ [])) ls) ≡ true → Found
-    later found =
-        ap (λ b. head || b)
-        (ap₂ (λ xs k. list_any (is_sought_line sought.Header (element r i)) (standing_from xs k ls)) (sym (named_next before l)) (sym (length-append before (l ∷ []))) ∙ found)
-        ∙ either head
-      where
-        either : (b : Bool) → (b || true) ≡ true
-        either true = refl
-        either false = refl
+      later : has_header (standing_over (before ++ l ∷ []) ls) ≡ true → has_header (line_stands xs l ∷ standing_over (before ++ l ∷ []) ls) ≡ true
+      later found = ap (λ b. is_sought_line sought.Header (element r i) (line_stands xs l) || b) found ∙ or_true (is_sought_line sought.Header (element r i) (line_stands xs l))
 
-    by : (count_tables (named_by (named before) (length before) l.expr) r ≡ 0)
-        ⊎ ((heads (element r (count_tables (named before) r)) (line_base (named before) l.expr) (own_address (named before) l.expr) ≡ true)
-        × (count_tables (named_by (named before) (length before) l.expr) r ≡ 1))
-        → (count_tables (named (before ++ l ∷ [])) r ≤ i → list_any (is_sought_line sought.Header (element r i)) (standing_from (named (before ++ l ∷ [])) (length (before ++ l ∷ [])) ls) ≡ true)
-        → Found
-    by (inl none) on = later (on (omega (arith, next, none, low)))
-    by (inr (heads_it, one)) on = at (nat_lt (count_tables (named before) r) i) refl
-      where
-        at : (b : Bool) → nat_lt (count_tables (named before) r) i ≡ b → Found
-        at true less = later (on (let f = is_less (count_tables (named before) r) i less in omega (arith, next, one, f)))
-        at false not =
-            let same : count_tables (named before) r ≡ i = grind (arith, nat_tests, not, low) in
-            ap (λ b. b || list_any (is_sought_line sought.Header (element r i)) (standing_from (named before ++ named_by (named before) (length before) l.expr) (length before + 1) ls))
-            (ap (λ k. heads (element r k) (line_base (named before) l.expr) (own_address (named before) l.expr)) (sym same) ∙ heads_it)
+      by : Counts xs (length before) l.expr r → has_header (line_stands xs l ∷ standing_over (before ++ l ∷ []) ls) ≡ true
+      by (inl none) = later (more (omega (arith, next, none, low)))
+      by (inr (header, one)) = at (nat_lt (count_tables xs r) i) refl
+        where
+          at : (b : Bool) → nat_lt (count_tables xs r) i ≡ b → has_header (line_stands xs l ∷ standing_over (before ++ l ∷ []) ls) ≡ true
+          at true less = later (more (let f = is_less (count_tables xs r) i less in omega (arith, next, one, f)))
+          at false last =
+              let same : count_tables xs r ≡ i = grind (arith, nat_tests, last, low) in
+              ap (λ b. b || has_header (standing_over (before ++ l ∷ []) ls)) (ap (λ k. heads (element r k) (line_base xs l.expr) (own_address xs l.expr)) (sym same) ∙ header)
+
+  headed_from : (ls before : List Line) → count_tables (named before) r ≤ i → count_tables (named (before ++ ls)) r ≡ i + 1 → has_header (standing_over before ls) ≡ true
+  headed_from [] before low is =
+      let e = ap (λ bs. count_tables (named bs) r) (append-nil before) in absurd (omega (arith, e, low, is))
+  headed_from (l ∷ ls) before low is =
+      ap (λ ss. has_header (line_stands (named before) l ∷ ss)) (standing_next before l ls)
+      ∙ headed_next before l ls low (λ h. headed_from ls (before ++ l ∷ []) h (ap (λ bs. count_tables (named bs) r) (append_assoc before (l ∷ []) ls) ∙ is))
 
 -- So has the last element of an array of tables.
 pub last_headed : (lines : List Line) (q : Address) → IsLastElement (named lines) q → list_any (is_sought_line sought.Header q) (standing lines) ≡ true

@@ -1,5 +1,5 @@
 -- The section from which a dotted key makes a table is one under the table rules.
-use Rattle.std.proofs.Common.{◌≡◌, ◌∙◌, inl, inr, ℕ, ◌+◌, ◌==◌, ◌<◌, ◌≤◌, Bool, true, false, ◌&&◌, Option, Some, None, List, [], ◌∷◌, ◌++◌, map, length, length-append, refl, sym, ap, ap₂, subst, true≢false, append_assoc, arith}
+use Rattle.std.proofs.Common.{◌≡◌, ◌∙◌, inl, inr, ℕ, ◌==◌, ◌<◌, Bool, true, false, ◌&&◌, Option, Some, None, List, [], ◌∷◌, ◌++◌, map, length, refl, sym, ap, ap₂, subst, true≢false, append_assoc, arith}
 use Rattle.std.specs.Bool.{nat_lt}
 use Rattle.std.specs.List.{list_any}
 use Rattle.std.proofs.lemmas.Bool.{and_parts, eqb-true}
@@ -13,11 +13,9 @@ use Rattle.toml_names.specs.mentions.Rules.{KeepsRules}
 use Rattle.toml_names.specs.model.Addresses.{Address, IsAbove, below, child, is_above}
 use Rattle.toml_names.proofs.Proved.{above_is_above}
 use Rattle.toml_layout.specs.Beginnings.{begins}
-use Rattle.toml_layout.specs.Outlines.{ValueOutline}
 use Rattle.toml_working.specs.declared.lines.Sought.TheVariants as sought
-use Rattle.toml_working.specs.DottedTables.{PutsDotted, is_maker, makes_from}
+use Rattle.toml_working.specs.DottedTables.{is_maker, makes_from}
 use Rattle.toml_working.specs.InsertingInTables.{key_behind}
-use Rattle.toml_working.specs.Manners.{Manner}
 use Rattle.toml_working.specs.Sections.{stands_in}
 use Rattle.toml_working.specs.Seeing.{is_dotted, is_sought_line}
 use Rattle.toml_working.specs.Standing.{Standing, standing}
@@ -25,7 +23,7 @@ use Rattle.toml_editor.proofs.written.Clear.{above_true}
 use Rattle.toml_editor.proofs.written.DocumentSections.{begins_longer, document_sectioned}
 use Rattle.toml_editor.proofs.written.DottedKeys.{key_behind_is}
 use Rattle.toml_editor.proofs.written.HeadersAlone.{header_is_alone, is_less}
-use Rattle.toml_editor.proofs.written.OneSection.{Heads, AreSectioned, IsAmong, among_before, among_of, heads_within, same_begin, section_over, sectioned_back}
+use Rattle.toml_editor.proofs.written.OneSection.{Heads, AreSectioned, among_before, among_of, heads_within, same_begin, section_over, sectioned_back}
 use Rattle.toml_editor.proofs.written.TablesStay.{any_at}
 
 -- ---- addresses

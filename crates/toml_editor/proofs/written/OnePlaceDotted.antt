@@ -1,7 +1,5 @@
 -- In the section whose dotted keys make a table a new line has one place.
-use Rattle.std.proofs.Common.{◌≡◌, ◌∙◌, ◌⊎◌, inl, inr, ℕ, Bool, true, false, ◌||◌, ◌&&◌, not, cond, Option, Some, None, List, [], ◌∷◌, ◌++◌, refl, sym, ap, ap₂, subst, true≢false, append_assoc}
-use Rattle.std.proofs.lemmas.Option.{none-some}
-use Rattle.toml_tree.specs.Spells.{EachIs}
+use Rattle.std.proofs.Common.{◌≡◌, ◌∙◌, ◌⊎◌, inl, inr, ℕ, Bool, true, false, ◌&&◌, not, cond, Option, Some, None, List, [], ◌∷◌, ◌++◌, refl, sym, ap, ap₂, subst, true≢false, append_assoc}
 use Rattle.toml_tree.specs.Tree.{Expr, BlankLine, KeyValLine, TableLine, ArrayTableLine, Line}
 use Rattle.toml_names.specs.mentions.Keys.{Key, key_names, part_name, rest_names}
 use Rattle.toml_names.specs.mentions.Mentions.{Named, count_tables, named}
@@ -11,22 +9,20 @@ use Rattle.toml_names.specs.reader.Names.{header_end, own_address}
 use Rattle.toml_names.specs.declared.model.address.Step.TheVariants.{Index}
 use Rattle.toml_layout.specs.declared.layout.Layout.{Layout}
 use Rattle.toml_layout.specs.declared.layout.Layout.TheVariants as layouts
-use Rattle.toml_layout.specs.Outlines.{ValueOutline}
 use Rattle.toml_units.specs.Units.{line_base}
-use Rattle.toml_working.specs.DottedTables.{IsBehindEntry, PutsDotted, StandsAmong, StandsInside, has_inside, has_more, is_inside, stands_inside}
+use Rattle.toml_working.specs.DottedTables.{StandsAmong, StandsInside, has_inside, has_more, is_inside}
 use Rattle.toml_working.specs.FirstKeys.{spacing_put}
 use Rattle.toml_working.specs.InsertStanding.{line_put}
-use Rattle.toml_working.specs.Manners.{Manner}
 use Rattle.toml_working.specs.Placing.{IsPair, is_header}
 use Rattle.toml_working.specs.Seeing.{heads}
-use Rattle.toml_working.specs.Standing.{Standing, line_stands, standing}
+use Rattle.toml_working.specs.Standing.{Standing, standing}
 use Rattle.toml_editor.specs.StandingLaws.{OnePlaceAmong}
 use Rattle.toml_editor.proofs.written.Clear.{same_is, self}
 use Rattle.toml_editor.proofs.written.Closed.{no_end}
-use Rattle.toml_editor.proofs.written.DocumentSections.{document_sectioned, headed_at, headers_differ, line_of}
+use Rattle.toml_editor.proofs.written.DocumentSections.{document_sectioned, headers_differ, line_of}
 use Rattle.toml_editor.proofs.written.HeaderNamed.{end_behind_name}
 use Rattle.toml_editor.proofs.written.OneMaker.{one_key, one_maker}
-use Rattle.toml_editor.proofs.written.OneSection.{AreSectioned, Heads, HeadersDiffer, IsAmong, among_before, among_behind, header_within, heads_within, in_section, never_twice, one_section, over_append, over_between, pair_section, section_behind, section_over, sectioned_back, two_places}
+use Rattle.toml_editor.proofs.written.OneSection.{AreSectioned, Heads, IsAmong, among_before, among_behind, header_within, heads_within, in_section, never_twice, one_section, over_append, over_between, pair_section, section_behind, section_over, sectioned_back, two_places}
 
 -- ---- a header between
 
