@@ -1,7 +1,8 @@
 //! The names that edits bring, spelled.
 ghost use Rattle.std.specs.Prelude.{◌≡◌, IfOk, map, string_bytes};
 ghost use Rattle.toml_edits.specs.Edits.{change};
-ghost use Rattle.toml_editor.specs.SpelledEdits.{AreSpelled, AreSteps, IsNewName, IsSpelled, step_spelled};
+ghost use Rattle.toml_editor.specs.SpelledEdits.{AreSpelled, IsNewName, IsSpelled};
+ghost use Rattle.toml_working.specs.Spellings.{AreSteps, step_spelled};
 
 use std::alloc::{AllocError, Global};
 use toml_edits::{Edit, place};

@@ -75,7 +75,7 @@ returns-in_ok-named-in-Some-clause-below c =
     (λ puts within v is q last split.
     subst₂ (λ r o. TreePutsIn r p steps o read old c.insert.new.self)
     (parent_is p q c.in_ok-parent-in-Some.parent last c.in_ok-parent-in-Some.ensures split)
-    (outlined ∙ ap value_outline (one_value w v 0 c.args.value.now of_text.0 is.0)) puts.header)
+    (outlined ∙ ap value_outline (one_value w v 0 c.args.value.now of_text.0 is.0)) puts)
     c.insert.ensures.below
 
 pub returns-in-None-clause-below : goal.returns-in-None-clause-below
