@@ -96,11 +96,11 @@ module _ (q : Address) where
   fronts_not_made whole k n not (x ∷ y ∷ more) at is low =
       let long : length (child at x) ≡ length at + 1 = length-append at (Name x ∷ []) in (
         (λ same.
-        let above : is_above (child at x) whole ≡ true =
-        (above_is_above (child at x) whole).1 (Name y, map Name more, sym is ∙ sym (below-cons at x (y ∷ more))) in
-        let less : k < length (child at x) = omega (arith, low, long) in
-        let both : is_dotted (child at x) (Some k) (Some whole) ≡ true = ap₂ (λ a b. a && b) (less_is k (length (child at x)) less) above in
-        absurd (true≢false (sym both ∙ ap (λ a. is_dotted a (Some k) (Some whole)) same ∙ not))),
+            let above : is_above (child at x) whole ≡ true =
+            (above_is_above (child at x) whole).1 (Name y, map Name more, sym is ∙ sym (below-cons at x (y ∷ more))) in
+            let less : k < length (child at x) = omega (arith, low, long) in
+            let both : is_dotted (child at x) (Some k) (Some whole) ≡ true = ap₂ (λ a b. a && b) (less_is k (length (child at x)) less) above in
+            absurd (true≢false (sym both ∙ ap (λ a. is_dotted a (Some k) (Some whole)) same ∙ not))),
         fronts_not_made whole k n not (y ∷ more) (child at x) (below-cons at x (y ∷ more) ∙ is) (omega (arith, low, long)),
       )
     where
@@ -171,7 +171,7 @@ meets a (m ∷ ms) goes (inl (at, role, kind)) = (
 )
 meets a (m ∷ ms) goes (inr h) = (
   (λ same.
-  inl (from_has (Goes m) (IsTwin a) (may_follow m.role Passed ≡ true) (λ l g is. subst (λ r. may_follow m.role r ≡ true) is.1 (g (same ∙ sym is.0))) ms goes.0 h)),
+      inl (from_has (Goes m) (IsTwin a) (may_follow m.role Passed ≡ true) (λ l g is. subst (λ r. may_follow m.role r ≡ true) is.1 (g (same ∙ sym is.0))) ms goes.0 h)),
   meets a ms goes.1 h,
 )
 

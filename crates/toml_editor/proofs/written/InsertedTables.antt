@@ -1,8 +1,7 @@
 -- Where the new lines of an `insert` stand, in any table.
-use Rattle.std.proofs.Common.{◌≡◌, ◌∙◌, ◌⊎◌, inl, inr, ℕ, List, [], ◌∷◌, refl, sym, subst}
+use Rattle.std.proofs.Common.{◌⊎◌, inl, inr, ℕ, List, [], ◌∷◌, sym, subst}
 use Rattle.std.proofs.lemmas.Bool.{cond-true}
 use Rattle.toml_tree.specs.Tree.{Value, Line}
-use Rattle.toml_names.specs.mentions.Keys.{Key}
 use Rattle.toml_names.specs.model.Addresses.{Address}
 use Rattle.toml_working.specs.InsertingInTables.{insert_in}
 use Rattle.toml_working.specs.Manners.{Manner}

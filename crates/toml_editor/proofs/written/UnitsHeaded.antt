@@ -1,13 +1,11 @@
 -- The units after a new header line.
-use Rattle.std.proofs.Common.{◌≡◌, ◌⊎◌, inl, inr, ℕ, suc, ◌+◌, true, false, Option, Some, None, List, [], ◌∷◌, ◌++◌, map, length}
+use Rattle.std.proofs.Common.{◌≡◌, ◌⊎◌, inl, inr, ℕ, suc, ◌+◌, true, false, Option, Some, None, List, [], ◌∷◌, ◌++◌, length}
 use Rattle.std.proofs.Common.{refl, sym, ap, ap₂, ◌∙◌, subst, subst₂, true≢false, append_assoc, append-nil, length-append, arith}
-use Rattle.std.specs.List.{flat_map, join_by}
 use Rattle.std.specs.Prelude.{option_map, slice_get}
 use Rattle.toml_text.specs.Forms.{IsComment}
-use Rattle.toml_scalar.specs.Spelling.{spelled}
 use Rattle.toml_tree.specs.Bare.{fresh}
 use Rattle.toml_tree.specs.Pieces.{expr_piece}
-use Rattle.toml_tree.specs.Spells.{AreLines, IsCommentOrNone, IsExpr, Part, all_parts, comment_parts, dotted_parts, expr_parts, joined, key_parts, piece, symbol}
+use Rattle.toml_tree.specs.Spells.{AreLines, IsCommentOrNone, IsExpr, comment_parts, expr_parts, joined, key_parts, piece, symbol}
 use Rattle.toml_tree.specs.Tree.{Piece, Expr, BlankLine, KeyValLine, TableLine, ArrayTableLine, Line}
 use Rattle.toml_names.specs.model.Addresses.{Address}
 use Rattle.toml_names.specs.mentions.Mentions.{Named, named, named_by, root}
@@ -18,7 +16,7 @@ use Rattle.toml_layout.specs.Outlines as outline
 use Rattle.toml_layout.specs.TreeOutlines.{line_outline}
 use Rattle.toml_layout.specs.declared.tree.Brackets.{Brackets}
 use Rattle.toml_layout.specs.declared.tree.Brackets.TheVariants.{One, Two}
-use Rattle.toml_working.specs.FreshKeys.{dotted_name, key_named}
+use Rattle.toml_working.specs.FreshKeys.{key_named}
 use Rattle.toml_working.specs.Heading.{header_expr, header_line}
 use Rattle.toml_working.specs.Headers.{has_no_bytes, names_of}
 use Rattle.toml_working.specs.Inserting.{has_pair}

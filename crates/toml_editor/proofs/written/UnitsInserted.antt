@@ -1,11 +1,11 @@
 -- The units after an `insert`.
-use Rattle.std.proofs.Common.{◌≡◌, ◌∙◌, inl, inr, ℕ, suc, ◌+◌, ◌<◌, false, Some, None, List, [], ◌∷◌, ◌++◌, length, refl, sym, ap, ap₂, subst, subst₂, append_assoc, append-nil, arith}
+use Rattle.std.proofs.Common.{◌≡◌, ◌∙◌, inl, inr, ℕ, suc, ◌+◌, false, Some, None, List, [], ◌∷◌, ◌++◌, length, refl, sym, ap, ap₂, subst, subst₂, append_assoc, append-nil, arith}
 use Rattle.std.specs.List.{join_by}
 use Rattle.std.specs.Prelude.{slice_get}
 use Rattle.std.proofs.lemmas.Option.{same_Some}
 use Rattle.toml_scalar.specs.Spelling.{spelled}
 use Rattle.toml_tree.specs.Bare.{fresh}
-use Rattle.toml_tree.specs.Spells.{AreLines, IsExpr, assign_parts, equals_parts, expr_parts, joined, key_parts, piece, value_parts}
+use Rattle.toml_tree.specs.Spells.{AreLines, IsExpr, equals_parts, expr_parts, joined, key_parts, piece, value_parts}
 use Rattle.toml_tree.specs.Tree.{Value, Expr, Line}
 use Rattle.toml_tree.proofs.Proved.{parts_join}
 use Rattle.toml_names.specs.model.Addresses.{Address, below, child}
@@ -26,7 +26,6 @@ use Rattle.toml_working.specs.Manners.{Manner}
 use Rattle.toml_working.specs.Premises.{HasTable}
 use Rattle.toml_working.specs.Standing.{standing_from}
 use Rattle.toml_editor.specs.UnitBlocks.{Both, InsertUnits, IsBlockPut, OneLine, pair_line_units, pair_text}
-use Rattle.toml_editor.proofs.written.AheadPlace.{IsPutAhead}
 use Rattle.toml_editor.proofs.written.Alike.{alike_self, alike_pair}
 use Rattle.toml_editor.proofs.written.CountedAlike.{stand_same}
 use Rattle.toml_editor.proofs.written.FreshKeys.{key_again, key_is}
@@ -35,7 +34,7 @@ use Rattle.toml_editor.proofs.written.InsertedTables.{IsInserted, insert_in_plac
 use Rattle.toml_editor.proofs.written.InsertPlace.{IsFull}
 use Rattle.toml_editor.proofs.written.InsertSpaced.{line_formed}
 use Rattle.toml_editor.proofs.written.InsertStands.{section_append}
-use Rattle.toml_editor.proofs.written.LastLines.{LastIsFull, full_line}
+use Rattle.toml_editor.proofs.written.LastLines.{full_line}
 use Rattle.toml_editor.proofs.written.UnitsAlike.{units_alike}
 use Rattle.toml_editor.proofs.written.UnitsHeaded.{header_block, new_units as header_line_is, units_same}
 use Rattle.toml_editor.proofs.written.UnitsPut.{IsPutWell, formed_well, line_lines, lines_first, put_among, put_before, put_behind, put_last, some_lines}

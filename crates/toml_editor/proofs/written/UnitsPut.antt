@@ -1,33 +1,18 @@
 -- The units after one line more.
-use Rattle.std.proofs.Common.{◌≡◌, ℕ, ◌+◌, Some, None, List, [], ◌∷◌, ◌++◌, length, refl, sym, ap, ap₂, ◌∙◌, subst, subst₂, append_assoc, append-nil, ◌⊎◌, inl, inr, ◌<◌, zero, suc, arith, Option}
+use Rattle.std.proofs.Common.{◌≡◌, ℕ, ◌+◌, Some, None, List, [], ◌∷◌, ◌++◌, length, refl, sym, ap, ap₂, ◌∙◌, append_assoc, append-nil, ◌⊎◌, inl, inr, ◌<◌, zero, suc, arith, Option}
 use Rattle.std.specs.Prelude.{slice_get}
-use Rattle.toml_scalar.specs.Spelling.{spelled}
-use Rattle.toml_tree.specs.Bare.{fresh}
-use Rattle.toml_tree.specs.Spells.{AreLines, IsExpr, joined, value_parts, piece}
-use Rattle.toml_tree.specs.Tree.{Piece, Value, Expr, BlankLine, KeyValLine, TableLine, ArrayTableLine, Line}
-use Rattle.toml_tree.proofs.Proved.{parts_join}
-use Rattle.toml_names.specs.declared.model.address.Step.TheVariants.{Name}
-use Rattle.toml_names.specs.model.Addresses.{Address, below, child}
+use Rattle.toml_tree.specs.Tree.{Piece, Expr, BlankLine, KeyValLine, TableLine, ArrayTableLine, Line}
+use Rattle.toml_names.specs.model.Addresses.{Address, below}
 use Rattle.toml_names.specs.reader.Names.{own_address}
-use Rattle.toml_names.specs.mentions.Keys.{spelled_name, key_names}
-use Rattle.toml_names.specs.mentions.Mentions.{Named, named_by, named_from, root, section}
-use Rattle.toml_units.specs.Units.{TextUnit, line_units, inside, comment_units, units_from, units}
+use Rattle.toml_names.specs.mentions.Keys.{key_names}
+use Rattle.toml_names.specs.mentions.Mentions.{Named, named_by, named_from, section}
+use Rattle.toml_units.specs.Units.{TextUnit, line_units, inside, comment_units, units_from}
 use Rattle.toml_units.specs.declared.unit.UnitKind.TheVariants as kinds
-use Rattle.toml_working.specs.Inserting.{new_assign, new_expr, line_put}
-use Rattle.toml_working.specs.InsertingInTables.{insert_in}
-use Rattle.toml_layout.specs.declared.layout.Layout.TheVariants as layouts
-use Rattle.toml_working.specs.Manners.{Manner}
-use Rattle.toml_layout.specs.Spacings.{Spacing, plain_spacing}
-use Rattle.toml_editor.specs.UnitBlocks.{BeginWithLine, IsBlockPut, pair_line_units, pair_text, InsertUnits}
-use Rattle.toml_editor.proofs.written.Alike.{alike_self, alike_pair}
-use Rattle.toml_editor.proofs.written.InsertSpaced.{line_formed}
-use Rattle.toml_editor.proofs.written.InsertPlace.{IsFull}
-use Rattle.toml_editor.proofs.written.FreshKeys.{spelled_again}
-use Rattle.toml_editor.proofs.written.LastLines.{LastIsFull, full_behind, full_line}
+use Rattle.toml_editor.specs.UnitBlocks.{BeginWithLine, IsBlockPut}
+use Rattle.toml_editor.proofs.written.LastLines.{LastIsFull, full_behind}
 use Rattle.toml_editor.proofs.written.WayBlock.{inside_lines, lines_append}
 use Rattle.toml_editor.proofs.written.WayFits.{newlines}
 use Rattle.toml_editor.proofs.written.WayZip.{lines_in}
-use Rattle.toml_editor.proofs.written.UnitsAlike.{units_alike}
 
 pub lines_first : (ls : List Line) (xs : List Named) (n : ℕ) → BeginWithLine (units_from xs n ls)
 lines_first [] xs n = tt
