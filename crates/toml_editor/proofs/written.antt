@@ -36,6 +36,7 @@ pub mod EndsBare
 pub mod Examples
 pub mod ExamplesBelow
 pub mod ExamplesHeaded
+pub mod ExamplesInTables
 pub mod Exchanged
 pub mod Fitting
 pub mod Follow
