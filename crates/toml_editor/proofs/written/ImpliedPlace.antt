@@ -30,7 +30,6 @@ use Rattle.toml_working.specs.Placing.{is_header}
 use Rattle.toml_working.specs.Premises.{HasImplied, implies}
 use Rattle.toml_working.specs.Seeing.{heads_below, is_sought_line}
 use Rattle.toml_working.specs.Standing.{Standing, line_stands, standing, standing_from}
-use Rattle.toml_editor.proofs.written.BelowPlace.{standing_behind}
 use Rattle.toml_editor.proofs.written.Counted.{counts_stay}
 use Rattle.toml_editor.proofs.written.DottedPlace.{section_stays}
 use Rattle.toml_editor.proofs.written.HeaderPut.{IsHeaderPut}
@@ -40,7 +39,7 @@ use Rattle.toml_editor.proofs.written.ImpliedSplit.{IsScanned, IsWsOf, LeadsTo, 
 use Rattle.toml_editor.proofs.written.InsertSpaced.{IsSpacing, front_spaced, laid_spaced, line_formed}
 use Rattle.toml_editor.proofs.written.InsertStands.{has_same}
 use Rattle.toml_editor.proofs.written.UnitsAlike.{own_alike}
-use Rattle.toml_editor.proofs.written.ImpliedHeaders.{any_weaker, first_passes, implied_below, is_implying, leads_so, none_front}
+use Rattle.toml_editor.proofs.written.ImpliedHeaders.{any_weaker, first_passes, implied_below, is_implying, leads_so}
 
 -- ---- the place
 
@@ -58,8 +57,6 @@ module _ (q : Address) (name : List ℕ) (v : Value) (manner : Manner) where
     pub unkeyed : has_pair back ≡ false
     pub spaced : AreLines old → IsWs ws × IsSpacing spacing
     pub plain : manner.layout ≡ layouts.Plain → (ws ≡ []) × (spacing ≡ plain_spacing)
-    pub none_below : has_below q (standing front) ≡ false
-    pub none_dotted : list_any (is_sought_line sought.Dotted q) (standing front) ≡ false
     pub ws_is : ws ≡ ws_ahead manner.layout (standing_from (named front) (length front) back)
     pub spacing_is : spacing ≡ spacing_below manner.layout ws (standing front)
     pub stands : put_ahead q name (value_outline v) manner [] (standing old)
@@ -242,10 +239,6 @@ module _ (q : Address) (name : List ℕ) (v : Value) (manner : Manner) (lines : 
     unkeyed = unkeyed;
     spaced = spaced;
     plain = λ is. (ap (λ o. ws_ahead o behind) is, ap (λ o. laid_out o (spacing_like ws (like_before ws (standing front)))) is);
-    none_below = ap (has_below q) front_stands ∙ it.none;
-    none_dotted =
-        none_front (is_sought_line sought.Dotted q) (standing front) (standing_from (named front) (length front) back)
-        (ap (list_any (is_sought_line sought.Dotted q)) (sym (standing_behind front back []) ∙ ap standing (sym lines_are)) ∙ has.no_dotted);
     ws_is = ap (ws_ahead manner.layout) (sym back_stands);
     spacing_is = refl;
     stands =

@@ -90,9 +90,6 @@ module _ (q : Address) (name : List ℕ) (v : Value) (manner : Manner) where
   abbrev ahead : List Standing → List Shown → List Line
   ahead = insert_ahead q name v manner
 
-  abbrev stand_ahead : List Standing → List Standing → List Standing
-  stand_ahead = put_ahead q name (value_outline v) manner
-
   -- none of them is a header below the table, and the next ones lead to such a header
   pub record IsScanned (front : List Standing) (xs : List Shown) : Type 0 where
     pub first : List Shown

@@ -22,7 +22,7 @@ use Rattle.toml_edits.proofs.Proved.{parted_at_last}
 use Rattle.toml_editor.specs.Blocks.{IsPut, value_block, named_plain}
 use Rattle.toml_editor.specs.RemoveLaws.{LeavesTable, RemoveForms}
 use Rattle.toml_working.specs.Lines.{lines_from}
-use Rattle.toml_working.specs.Removing.{emptied_expr, emptied_line, empty_line, left_of_line, lines_left, remove_line}
+use Rattle.toml_working.specs.Removing.{emptied_expr, emptied_line, empty_line, left_of_line, remove_line}
 use Rattle.toml_working.specs.RemoveStanding.{leaves_parent}
 use Rattle.toml_layout.specs.Holders.{parent_of}
 use Rattle.toml_working.specs.Standing.{standing}
@@ -97,9 +97,6 @@ module _ (p : Address) (b : Bool) where
 
 pub remove_forms : RemoveForms
 remove_forms p lines is = lines_formed p (leaves_parent p (standing lines)) lines (root ∷ []) 0 is
-
-pub left_forms : (p : Address) (b : Bool) (lines : List Line) → AreLines lines → AreLines (lines_left p b lines)
-left_forms p b lines is = lines_formed p b lines (root ∷ []) 0 is
 
 -- ---- rules
 
