@@ -1,5 +1,6 @@
 -- What is told as refused, where the edits before are plain, is refused.
 use Rattle.std.proofs.Common.{◌≡◌, ◌⊎◌, ℕ, Bool, true, false, Option, Some, None, IsSome, List, [], ◌∷◌, ◌++◌, take, refl, sym, ◌∙◌, subst, inl, inr, true≢false}
+use Rattle.std.proofs.lemmas.List.{same_from_push}
 use Rattle.std.specs.Prelude.{slice_get}
 use Rattle.std.specs.List.{list_any}
 use Rattle.toml_tree.specs.Profiles.{SpellsIn}
@@ -17,7 +18,6 @@ use Rattle.toml_edits.specs.declared.fault.EditFault.TheVariants.{NotAName, NotA
 use Rattle.toml_edits.specs.Edits as edits
 use Rattle.toml_edits.specs.Edits.{Change}
 use Rattle.toml_edits.specs.Faults.{IsFault}
-use Rattle.toml_edits.proofs.LastStep.{same_last}
 use Rattle.toml_editor.specs.Edited.{MayBeSpread, OfDefined, TakesLastElement, TellsWith}
 use Rattle.toml_editor.specs.LastTexts.{HasContainerAt}
 use Rattle.toml_editor.specs.PlainAnswers.{IsNoInsert, OnlyRefusedIsTold, PlainSoFar, refusal}
@@ -64,7 +64,7 @@ module _ (layout : Layout) (profile : Profile) (before : List ℕ) (cs : List Ch
   on_tree P e f spells again holds = subst (λ (x : Doc). P x.lines) (one_tree e f between spells.0 again.0) holds
 
   module _ (c : Change) (is : slice_get cs n ≡ Some c) (none : IsFault profile c mid None) (neither : IsNeitherPlainNorHeld layout profile before cs n) where
-    -- what the edit would make is not made
+    -- once the edit makes something, the text is told to be neither
     not_either : Makes profile c mid → ¬ IsPlainOrHeld profile between c
     not_either makes =
         of_tree layout profile before cs n between mid so_far
@@ -106,7 +106,7 @@ module _ (layout : Layout) (profile : Profile) (before : List ℕ) (cs : List Ch
         by : (p ≡ []) ⊎ ((q : Address) × (s : Step) × (p ≡ q ++ s ∷ [])) → IsRefusedIn profile between (edits.new_element p)
         by (inl root) = absurd (none RootNamed root)
         by (inr (q, Name name, at)) =
-            absurd (none NotAnElement (λ r m i own. (let x = same_last q (child r m) (Name name) (Index i) (sym at ∙ own) in cc)))
+            absurd (none NotAnElement (λ r m i own. (let x = (same_from_push q (child r m) (Name name) (Index i) (sym at ∙ own)).1 in cc)))
         by (inr (q, Index i, at)) =
             let makes : Makes profile (edits.new_element p) mid =
             subst (λ x. Makes profile (edits.new_element x) mid) (sym at)
