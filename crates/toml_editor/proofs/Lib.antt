@@ -6,6 +6,7 @@ pub mod OneChanged
 pub mod PassedRefused
 pub mod Judgements
 pub mod PlainAnswers
+pub mod PlainRefused
 mod PlainJudged
 pub mod NearFaults
 mod SpelledOne

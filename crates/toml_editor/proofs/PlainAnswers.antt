@@ -122,7 +122,7 @@ module _ (layout : Layout) (profile : Profile) (before : List ℕ) (cs : List Ch
   abbrev manner : Manner
   manner = manner_of layout d.lines
 
-  of_tree : (P : Doc → Type 0) → OfTree before P → P d
+  pub of_tree : (P : Doc → Type 0) → OfTree before P → P d
   of_tree P (e, e_spelled, holds) = subst P (one_tree e d before e_spelled spelled) holds
 
   of_data : (P : Kinds → Type 0) → OfData before P → P so_far.old
@@ -245,7 +245,7 @@ module _ (layout : Layout) (profile : Profile) (before : List ℕ) (cs : List Ch
       one_first_fault profile cs old n j fault other (first_of profile cs n old mid c fault so_far.lead is h) (first_of profile cs j old there x other lead x_is f)
 
   -- what is so of this edit on the data so far
-  here : (P : Change → Kinds → Type 0) → OnDataSoFar profile before cs n P → P c mid
+  pub here : (P : Change → Kinds → Type 0) → OnDataSoFar profile before cs n P → P c mid
   here P on =
       let (there, lead, x, x_is, holds) = of_data layout profile before cs n between mid so_far (λ k. SoFar profile cs k n P) on in
       subst (λ k. P c k) (fun_ext (one_lead profile (take n cs) old there mid lead so_far.lead))

@@ -16,6 +16,7 @@ pub mod Counted
 pub mod CountedAlike
 pub mod CountedArrays
 pub mod Deep
+pub mod DefinedAfter
 pub mod DocumentSections
 pub mod DottedKeys
 pub mod DottedPlace
@@ -60,6 +61,7 @@ pub mod HeaderStood
 pub mod HeaderThere
 pub mod HeadersAlone
 pub mod HeadersRenamed
+pub mod HeldElements
 pub mod ImpliedHeaders
 pub mod ImpliedPlace
 pub mod ImpliedSplit
@@ -81,6 +83,7 @@ pub mod KeptApart
 pub mod LastBare
 pub mod LastRefused
 pub mod LastLines
+pub mod LoneElements
 pub mod Made
 pub mod Members
 pub mod Moved

@@ -4,7 +4,7 @@ ghost use Rattle.toml_editor.specs.CarriedUnits.{PlainIsCarried};
 ghost use Rattle.toml_editor.specs.CarriedLists.{FirstBlankNeedsNewline, ListIsCarried};
 ghost use Rattle.toml_editor.specs.CertifiedLists.{PartnersCertify, OuterAreNamed, OuterPartnersCertify, PlainListIsCertified};
 ghost use Rattle.toml_editor.specs.ChangedUnits.{SetUnits};
-ghost use Rattle.toml_editor.specs.PlainAnswers.{FirstFaultIsAnswered, FirstRefusedIsAnswered, LongIsAnswered, PlainIsAnswered};
+ghost use Rattle.toml_editor.specs.PlainAnswers.{FirstFaultIsAnswered, FirstRefusedIsAnswered, LongIsAnswered, OnlyRefusedIsTold, PlainIsAnswered};
 ghost use Rattle.toml_editor.specs.LastTexts.{OneChange};
 ghost use Rattle.toml_editor.specs.HeaderLaws.{ElementIsLaidOut, ElementNames, ElementUnits, DocumentsAreReady, SectionIsLaidOut, SectionNames, SectionUnits, ValueIsPlace};
 ghost use Rattle.toml_editor.specs.InsertLaws.{InsertNames, InsertRules, InsertShort, InsertData, InsertForms, InsertOfProfile, InsertKeepsLines};
@@ -248,11 +248,13 @@ pub fn standing_removed()
 /// and it is not defined, it is that edit's fault with its number; where it is defined, but a `set` of an address where the text so
 /// far has no one value, or a `section` or an `element` above which a line's value stands, it is that its place is spread, with its
 /// number; where it is a `remove` of the only element of an array of tables, it is that it takes a last element, with its number.
+/// Where the edits before one are so, and it is no `insert`, these two are told of it in no other case.
 pub fn plain_answers()
     ensures plain { PlainIsAnswered }
     ensures long { LongIsAnswered }
     ensures fault { FirstFaultIsAnswered }
     ensures refused { FirstRefusedIsAnswered }
+    ensures told { OnlyRefusedIsTold }
 {}
 
 /// Where the working tree stands for the lines of a tree, the mark and the text of these lines are written: of the lines of
