@@ -1,4 +1,4 @@
--- What one line more, or one fewer, names: the numbers of lines aside, a block in what the others name.
+-- What lines that come or go name: the numbers of lines aside, a block in what the others name.
 use Rattle.std.specs.Prelude.{◌≡◌, ℕ, List, [], ◌∷◌, ◌++◌, map, Any}
 use Rattle.toml_tree.specs.Spells.{EachIs}
 use Rattle.toml_tree.specs.Tree.{Value, Line}
@@ -24,7 +24,8 @@ pub record IsPut (old block new : List Named) : Type 0 where
 
 -- tables that are named, each at the address or above it, and named once more
 abbrev pub AreTablesAgain : Address → List Named → List Named → Type 0
-AreTablesAgain q old tables = EachIs (λ t. (t.kind ≡ a_table) × ((rest : Address) × (q ≡ t.address ++ rest)) × Any (λ m. (m.address ≡ t.address) × (m.kind ≡ a_table)) old) tables
+AreTablesAgain q old =
+    EachIs (λ t. (t.kind ≡ a_table) × ((rest : Address) × (q ≡ t.address ++ rest)) × Any (λ m. (m.address ≡ t.address) × (m.kind ≡ a_table)) old)
 
 -- what a value at an address names: itself, and what is in it
 abbrev pub value_block : Address → Value → List Named

@@ -99,7 +99,7 @@ WritesInside profile read p text steps old new done = IsText text → (v : Value
     → (ss : List Standing) → Stands (text_of old.texts.source) read old.slots.items ss → AreOrdered ss → list_any (holds q) ss ≡ true
     → HoldsLines p (PutsHeld old.texts.layout steps made) (text_of old.texts.source) read old.slots.items new.slots.items ss done)
 
--- of one of a name into another table than the root, which is no value
+-- of one of a name into a table that is not the root, is no value and lies in none
 abbrev pub WritesBelow : Profile → Read → Address → List ℕ → List (String Global) → Tree → Tree → Type 0
 WritesBelow profile read p text steps old new = IsText text → (v : Value) → IsValueIn profile v text → (q : Address) (last : Step) → p ≡ q ++ last ∷ []
     → TreePutsIn q p steps (value_outline v) read old new
@@ -116,7 +116,7 @@ pub record WritesRename (read : Read) (p : Address) (to : List ℕ) (old new : T
   pub whole : NoneIsGone new.elements
 
 -- What an edit makes of the working tree, where no element is gone: a `set` puts the value in, if one stands there, and tells whether;
--- an `insert` of a name at the root, or in a table that is no value, puts its line in, a `remove` takes out the line of a value, or makes it
+-- an `insert` of a name in a table that is no value and lies in none puts its line in, a `remove` takes out the line of a value, or makes it
 -- the empty table right above where that would go with it, a `rename` gives lines the new name, a `section` and an `element` put their header
 -- line in. Where an array or an inline table in the value of a line holds it, an `insert` and a `remove` change that. A `remove` of an element of
 -- an array of tables tells whether it is made.

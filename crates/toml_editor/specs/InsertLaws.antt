@@ -1,4 +1,4 @@
--- Laws of `insert` of a name at the root, or in a table that is no value, over the lines before and after it.
+-- Laws of `insert` of a name in a table that is no value and lies in none, over the lines before and after it.
 use Rattle.std.specs.Prelude.{◌≡◌, ℕ, List, [], ◌∷◌, ◌++◌, ◌≤◌, ◌+◌, length, All}
 use Rattle.toml_text.specs.Forms.{IsNewline}
 use Rattle.toml_tree.specs.Profiles.{IsValueIn, IsValueOfProfile, AreLinesOfProfile}
@@ -24,8 +24,7 @@ use Rattle.toml_working.specs.Premises.{HasTable}
 use Rattle.toml_layout.specs.declared.layout.Layout.TheVariants as layouts
 use Rattle.toml_layout.specs.Spacings.{Spacing, plain_spacing}
 
--- Law: the new lines name what the old ones did, the tables that a dotted key or a new header passes or makes once more, and the name's value in
--- the table.
+-- Law: the new lines name what the old ones did, some tables at the parent or above it once more, and the name's value in the parent.
 abbrev pub InsertNames : Type 0
 InsertNames = (q : Address) (name : List ℕ) (v : Value) (manner : Manner) (lines : List Line) → HasTable lines q
     → (tables mid : List Named) × AreTablesAgain q (named_plain lines) tables × IsPut (named_plain lines) tables mid
@@ -60,15 +59,15 @@ InsertOfProfile = (profile : Profile) (q : Address) (name : List ℕ) (v : Value
     → AreLinesOfProfile profile lines → IsValueOfProfile profile v → AreLinesOfProfile profile (insert_in q name v manner lines)
 
 -- A new line with the value is put in as the first line of the root; behind another line, which stays but for a last line's newline, by a key
--- that has the names from the section's table on; or behind a new header of the table, both before other lines. In layout `Plain` the line has
+-- that has the names behind the address of a section; or behind a new header of the table, both before other lines. In layout `Plain` the line has
 -- a space on each side of its `=`, and neither line has one before it.
 pub data IsInsertedInto (q : Address) (name : List ℕ) (v : Value) (manner : Manner) (old new : List Line) : Type 0 where
   First : q ≡ [] → new ≡ new_line plain_spacing (name ∷ []) v manner.newline ∷ old → IsInsertedInto q name v manner old new
-  Behind : (section : Address) → (key : Key) → child q name ≡ below section key → (front : List Line) → (l : Line) → (back : List Line) → (s : Spacing)
-      → (manner.layout ≡ layouts.Plain → s ≡ plain_spacing) → old ≡ front ++ l ∷ back → new ≡ front ++ line_put s key v manner l back
+  Behind : (section : Address) → (key : Key) → ¬ (key ≡ []) → child q name ≡ below section key → (front : List Line) → (l : Line) → (back : List Line)
+      → (s : Spacing) → (manner.layout ≡ layouts.Plain → s ≡ plain_spacing) → old ≡ front ++ l ∷ back → new ≡ front ++ line_put s key v manner l back
       → IsInsertedInto q name v manner old new
-  Ahead : (front back : List Line) → (ws : List ℕ) → (s : Spacing) → (manner.layout ≡ layouts.Plain → (ws ≡ []) × (s ≡ plain_spacing)) → old ≡ front ++ back
-      → new ≡ front ++ header_line One q ws manner.newline ∷ new_line s (name ∷ []) v manner.newline ∷ back → IsInsertedInto q name v manner old new
+  Ahead : ¬ (q ≡ []) → (front back : List Line) → (ws : List ℕ) → (s : Spacing) → (manner.layout ≡ layouts.Plain → (ws ≡ []) × (s ≡ plain_spacing))
+      → old ≡ front ++ back → new ≡ front ++ header_line One q ws manner.newline ∷ new_line s (name ∷ []) v manner.newline ∷ back → IsInsertedInto q name v manner old new
 
 -- Law: so it is after an `insert`; all other lines stay what they are.
 abbrev pub InsertKeepsLines : Type 0

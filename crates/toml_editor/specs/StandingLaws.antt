@@ -85,7 +85,7 @@ abbrev pub InsertStandsAmong : Type 0
 InsertStandsAmong = (q : Address) (name : List ℕ) (new : Value) (manner : Manner) (lines : List Line) → AreLines lines → ¬ (q ≡ []) → HasDotted lines q
     → PutsDotted q name (value_outline new) manner (standing lines) (standing (insert_in q name new manner lines))
 
--- this is one place under the table rules, and the key of each line that makes the table has the names behind its section.
+-- this is one place under the table rules, and names alone lead from the section of each line that makes the table to the table.
 abbrev pub OnePlaceAmong : Type 0
 OnePlaceAmong = (q : Address) (name : List ℕ) (v : ValueOutline) (manner : Manner) (lines : List Line) (now new : List Standing)
     → KeepsRules (named lines) → PutsDotted q name v manner (standing lines) now → PutsDotted q name v manner (standing lines) new → now ≡ new

@@ -31,8 +31,8 @@ abbrev pub GoodTextsAreDocuments : Type 0
 GoodTextsAreDocuments = (profile : Profile) (text : List ℕ) → IsText text
     → ((kinds : Kinds) × IsGoodText profile text kinds) ↔ IsDocumentIn profile text
 
--- the edit is plain on these lines: a `set` where a value stands, a `rename`, an `insert` of a name at the root or in a table that is
--- no value, a `remove` of a value of a line, a `section` or an `element` above which no line's value stands
+-- the edit is plain on these lines: a `set` where a value stands, a `rename`, an `insert` of a name in a table that is no
+-- value and lies in none, a `remove` of a value of a line, a `section` or an `element` above which no line's value stands
 abbrev pub IsPlain : List Line → Change → Type 0
 IsPlain lines (set p text) = HasValue lines p
 IsPlain lines (insert p text) = (q : Address) × (name : List ℕ) × (p ≡ child q name) × HasTable lines q

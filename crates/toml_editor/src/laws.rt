@@ -33,8 +33,8 @@ pub fn sets()
     ensures forms { SetForms }
 {}
 
-/// After an `insert` of a name at the root, or in a table that is no value, the lines name what they named, the tables that a dotted
-/// key or a new header names once more, and the name's value. They keep the table rules, where the table had no such name and the value
+/// After an `insert` of a name in a table that is no value and lies in none, the lines name what they named, some tables at the parent or
+/// above it once more, and the name's value. They keep the table rules, where the table had no such name and the value
 /// keeps them, and the bound on addresses, where each address in the value keeps it below the name; they have the data that the edit
 /// makes, and are in the forms.
 pub fn inserts()
@@ -113,8 +113,8 @@ pub fn kept()
 {}
 
 /// Places aside, a line stays what it is and where it is, if a `set` is neither at its value nor in it; if a `rename` is at
-/// no part of a key in it. An `insert` puts in one line, and a `remove` takes out the line of the value; all others stay,
-/// but that a last line gets a newline before the new one, and leaves one of no bytes.
+/// no part of a key in it. An `insert` puts in one line, or a header of the table and one behind it; a `remove` takes out the line of the
+/// value; all others stay, but that a last line gets a newline before the new one, and leaves one of no bytes.
 pub fn kept_lines()
     ensures set { SetKeepsLine }
     ensures rename { RenameKeepsLine }
@@ -131,8 +131,8 @@ pub fn bares()
     ensures rename { RenameBares }
 {}
 
-/// The units of edited lines. After an `insert` they are those of before, and between two lines those of the new
-/// line, which has some whitespace, in layout `Plain` that of ` = `; after a `remove` of a line they are those of
+/// The units of edited lines. After an `insert` they are those of before, and between two lines those of the new line, or of a new
+/// header and it; it has some whitespace, in layout `Plain` that of ` = `; after a `remove` of a line they are those of
 /// before without its own, where a last line leaves one of no bytes. After a `rename` to a name that is free they are those of
 /// before, one by one, of the same kind and base, at the carried address, with the same text unless the edit changes the unit.
 /// After a `set` what lay in the old value is gone, the unit that has the value has the new one, what is in that comes behind it,
@@ -225,8 +225,8 @@ pub fn standing_inserted()
     ensures alone { HeaderIsAlone }
 {}
 
-/// After one in a table that dotted keys make lines have the new line in the section of one that makes it. This is one place under the table
-/// rules, and the key of each such line has the names behind its section. After one in a table that longer headers alone imply they have a
+/// After an `insert` in a table that dotted keys make lines have the new line in the section of one that makes it. This is one place under the table
+/// rules, and names alone lead from the section of each such line to the table. After one in a table that longer headers alone imply they have a
 /// new header and the new line before the first of these.
 pub fn standing_inserted_in_tables()
     ensures among { InsertStandsAmong }

@@ -185,8 +185,8 @@ fn write_set<'x>(
     }
 }
 
-/// Puts the value of an `insert` in on the working tree; the steps of its address are spelled so. It answers `false` where the
-/// parent is no table, and no array in a value.
+/// Puts the value of an `insert` in on the working tree; the steps of its address are spelled so. Of a
+/// parent that is a table or an array it answers `false` where that is an array of tables.
 fn write_insert<'x>(
     alloc: Global,
     tree: &mut Tree<'x>,

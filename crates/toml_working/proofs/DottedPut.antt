@@ -19,7 +19,7 @@ use Rattle.toml_working.specs.declared.lines.Slot.{Slot}
 use Rattle.toml_working.specs.declared.lines.Sought.TheVariants as sought
 use Rattle.toml_working.specs.declared.working.Position.{Position}
 use Rattle.toml_working.specs.declared.working.Tree.{Tree}
-use Rattle.toml_working.specs.DottedTables.{IsKeyed, PutsDotted, StandsAmong, TreePutsDotted, is_inside, is_maker, makes_from, stands_inside}
+use Rattle.toml_working.specs.DottedTables.{IsKeyed, PutsDotted, StandsAmong, TreePutsDotted, is_in_table, is_maker, makes_from, stands_in_table}
 use Rattle.toml_working.specs.FirstKeys.{spacing_put}
 use Rattle.toml_working.specs.InTables.{TreePutsIn}
 use Rattle.toml_working.specs.InsertStanding.{line_put}
@@ -77,10 +77,10 @@ begins_below (s ∷ section) key = ap (λ r. r && begins section (below section 
 
 module _ (q : Address) (s : Standing) (makes : is_sought_line sought.Dotted q s ≡ true) where
   -- it stands strictly below the table,
-  pub maker_inside : is_inside q s ≡ true
-  maker_inside = by s.base s.address makes
+  pub maker_in_table : is_in_table q s ≡ true
+  maker_in_table = by s.base s.address makes
     where
-      by : (base : Option ℕ) (own : Option Address) → is_dotted q base own ≡ true → stands_inside q base own ≡ true
+      by : (base : Option ℕ) (own : Option Address) → is_dotted q base own ≡ true → stands_in_table q base own ≡ true
       by None own h = cc
       by (Some n) None h = cc
       by (Some n) (Some a) h = (and_parts _ (is_above q a) h).1
@@ -167,7 +167,7 @@ module _ (q own : Address) (steps : List (String Global)) (v : ValueOutline) (re
                 (sym (ap₂ (lines_from read slots) here.0 here.1) ∙ last.is) last.heads last.pair last.there last.from
             | inr so ↦ inl so
           ];
-          inside = last.inside;
+          in_table = last.in_table;
           last = last.none;
           is =
               put.1
@@ -181,7 +181,7 @@ module _ (q own : Address) (steps : List (String Global)) (v : ValueOutline) (re
       → (base ≤ length above → n ≡ base) → part ≡ take n above
       → (LacksSought sought.Header q (slots_standing read old.slots.items) → list_any (is_sought_line sought.Dotted q) (slots_standing read old.slots.items) ≡ true
       → IsSoughtAt sought.Dotted q read old.slots.items from)
-      → ((s : Standing) → line_at read old.slots.items from ≡ Some s → is_inside q s ≡ true → EndsAmong old.texts.layout part q read old.slots.items from at)
+      → ((s : Standing) → line_at read old.slots.items from ≡ Some s → is_in_table q s ≡ true → EndsAmong old.texts.layout part q read old.slots.items from at)
       → TreePutsBehind own base steps v read at old now → TreePutsDotted q own steps v read old now
   puts_dotted above part last base n own_is base_is low part_is finds ends puts name at_is spellings ss stands ordered dotted =
       let slots = old.slots.items in
@@ -194,7 +194,7 @@ module _ (q own : Address) (steps : List (String Global)) (v : ValueOutline) (re
       let at_base : base ≡ length section = base_is ∙ ap base_of there ∙ ap steps_or_zero m_base in
       let enough : base ≤ length above = let whole = ap length above_is ∙ length-append section (map Name key) in omega (arith, whole, at_base) in
       let same : part ≡ section = part_is ∙ ap₂ take (low enough ∙ at_base) above_is ∙ take_at section (map Name key) (length section) refl in
-      let end = subst (λ a. EndsAmong old.texts.layout a q read slots from at) same (ends m there (maker_inside q m makes)) in
+      let end = subst (λ a. EndsAmong old.texts.layout a q read slots from at) same (ends m there (maker_in_table q m makes)) in
       subst (Put name) stands.are
       (put_among section key name m base at_base q_is (key_in section q own key name steps q_is at_is spellings) stands.kept there makes m_base end puts)
 

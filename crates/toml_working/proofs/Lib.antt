@@ -13,7 +13,7 @@ mod Commented
 mod Put
 mod PutRoot
 mod Sectioned
-mod LastInside
+mod LastInTable
 mod DottedPut
 mod HeaderSteps
 mod NoBytes

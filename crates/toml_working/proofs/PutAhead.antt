@@ -34,7 +34,7 @@ use Rattle.toml_working.specs.FirstKeys.{fits_behind, found_behind, last_like, s
 use Rattle.toml_working.specs.Following.{IsLastThat}
 use Rattle.toml_working.specs.FollowingHeaders.{is_no_comment}
 use Rattle.toml_working.specs.Headers.{new_header}
-use Rattle.toml_working.specs.ImpliedTables.{GoesAhead, IsAboveComments, IsAhead, LaysOutBelow, LeadsAhead, PutsAhead, PutsSection, lead_below, new_section, put_ahead, spacing_below, ws_ahead, ws_like}
+use Rattle.toml_working.specs.ImpliedTables.{GoesAhead, IsAboveComments, IsAhead, LaysOutBelow, LeadsAhead, PutsAhead, PutsSection, lead_below, section_standing, put_ahead, spacing_below, ws_ahead, ws_like}
 use Rattle.toml_working.specs.InsertStanding.{is_bare, is_comment, new_outline, new_standing_in}
 use Rattle.toml_working.specs.Looking.{BodyBegins, LooksAt}
 use Rattle.toml_working.specs.Manners.{Manner}
@@ -171,19 +171,19 @@ module _ (q : Address) where
         → put_ahead q name v manner above (front ++ rest) ≡ front ++ put_ahead q name v manner (above ++ front) rest
     past_front above [] rest none = ap (λ f. put_ahead q name v manner f rest) (sym (append-nil above))
     past_front above (s ∷ front) rest none =
-        ap (λ b. cond b (new_section q name v manner above (s ∷ (front ++ rest)) ++ s ∷ (front ++ rest)) (s ∷ put_ahead q name v manner (above ++ s ∷ []) (front ++ rest))) none.0
+        ap (λ b. cond b (section_standing q name v manner above (s ∷ (front ++ rest)) ++ s ∷ (front ++ rest)) (s ∷ put_ahead q name v manner (above ++ s ∷ []) (front ++ rest))) none.0
         ∙ ap (λ r. s ∷ r) (past_front (above ++ s ∷ []) front rest none.1)
         ∙ ap (λ f. s ∷ (front ++ put_ahead q name v manner f rest)) (append_assoc above (s ∷ []) front)
 
     put_here : (front rest : List Standing) → lead_below manner.layout q rest ≡ true
-        → put_ahead q name v manner front rest ≡ new_section q name v manner front rest ++ rest
+        → put_ahead q name v manner front rest ≡ section_standing q name v manner front rest ++ rest
     put_here front [] leads = absurd (never manner.layout leads)
       where
         never : (layout : Layout) → lead_below layout q [] ≡ true → ⊥
         never layouts.Plain h = true≢false (sym h)
         never layouts.Follow h = true≢false (sym h)
     put_here front (s ∷ rest) leads =
-        ap (λ b. cond b (new_section q name v manner front (s ∷ rest) ++ s ∷ rest) (s ∷ put_ahead q name v manner (front ++ s ∷ []) rest)) leads
+        ap (λ b. cond b (section_standing q name v manner front (s ∷ rest) ++ s ∷ rest) (s ∷ put_ahead q name v manner (front ++ s ∷ []) rest)) leads
 
     -- so the section is put in ahead of the first header below
     pub ahead_put : (front between : List Standing) (s : Standing) (back : List Standing) → LeadsAhead manner.layout front between

@@ -24,26 +24,27 @@ use Rattle.toml_working.specs.Standing.{Standing, Read, AreOrdered}
 use Rattle.toml_working.specs.Stands.{Stands}
 
 -- whether a line with this base and address has a key and a value, and stands below the table
-abbrev pub stands_inside : Address → Option ℕ → Option Address → Bool
-stands_inside q None own = false
-stands_inside q (Some n) None = false
-stands_inside q (Some n) (Some a) = is_above q a
+abbrev pub stands_in_table : Address → Option ℕ → Option Address → Bool
+stands_in_table q None own = false
+stands_in_table q (Some n) None = false
+stands_in_table q (Some n) (Some a) = is_above q a
 
-abbrev pub is_inside : Address → Standing → Bool
-is_inside q s = stands_inside q s.base s.address
+abbrev pub is_in_table : Address → Standing → Bool
+is_in_table q s = stands_in_table q s.base s.address
 
 -- whether such a line stands before the first header
-abbrev pub has_inside : Address → List Standing → Bool
-has_inside q [] = false
-has_inside q (s ∷ ss) = if is_inside q s then true else not (is_header s.base s.address) && has_inside q ss
+abbrev pub has_in_table : Address → List Standing → Bool
+has_in_table q [] = false
+has_in_table q (s ∷ ss) = if is_in_table q s then true else not (is_header s.base s.address) && has_in_table q ss
 
 -- whether one more of the lines follows behind the last of which a new one goes: of those with a key and a value, by layout `Follow` of those
 -- below the table
 abbrev pub has_more : Layout → Address → List Standing → Bool
 has_more layouts.Plain q ss = has_pair ss
-has_more layouts.Follow q ss = has_inside q ss
+has_more layouts.Follow q ss = has_in_table q ss
 
--- whether a line with this base and address stands in a section, and its dotted key makes the table
+-- whether so many steps lead to the table in which a line with this base and address stands as to this section's, and its dotted key makes the
+-- other table
 abbrev pub makes_from : Address → Address → Option ℕ → Option Address → Bool
 makes_from section q None own = false
 makes_from section q (Some n) own = (n == length section) && is_dotted q (Some n) own
@@ -51,7 +52,7 @@ makes_from section q (Some n) own = (n == length section) && is_dotted q (Some n
 abbrev pub is_maker : Address → Address → Standing → Bool
 is_maker section q s = makes_from section q s.base s.address
 
--- behind lines that end with these stands the section: one of its lines does, and no header behind it
+-- the last key line of these lines stands in the section, and no header follows it
 abbrev pub IsBehindEntry : Address → List Standing → Type 0
 IsBehindEntry section front = (before : List Standing) × (s : Standing) × (between : List Standing) × (front ≡ before ++ s ∷ between)
     × (is_of_section section s ≡ true) × EachIs IsNoHeader between
@@ -61,12 +62,12 @@ abbrev pub StandsAmong : Address → List Standing → Standing → Type 0
 StandsAmong section front s = (is_of_section section s ≡ true) ⊎ (IsPair s × IsBehindEntry section front)
 
 -- by layout `Follow` it stands below the table too
-abbrev pub StandsInside : Layout → Address → Standing → Type 0
-StandsInside layouts.Plain q s = Unit {0}
-StandsInside layouts.Follow q s = is_inside q s ≡ true
+abbrev pub StandsInTable : Layout → Address → Standing → Type 0
+StandsInTable layouts.Plain q s = Unit {0}
+StandsInTable layouts.Follow q s = is_in_table q s ≡ true
 
 -- The new line stands in a section of which a line's dotted key makes the table, behind the last one with a key and a value, by layout `Follow`
--- behind the last one below the table. Its key are the names from the section on.
+-- behind the last one of the table. Its key is the names behind the section's address.
 pub record PutsDotted (q : Address) (name : List ℕ) (v : ValueOutline) (manner : Manner) (old now : List Standing) : Type 0 where
   pub section : Address
   pub key : Key
@@ -77,11 +78,11 @@ pub record PutsDotted (q : Address) (name : List ℕ) (v : ValueOutline) (manner
   pub back : List Standing
   pub was : old ≡ front ++ line ∷ back
   pub among : StandsAmong section front line
-  pub inside : StandsInside manner.layout q line
+  pub in_table : StandsInTable manner.layout q line
   pub last : has_more manner.layout q back ≡ false
   pub is : now ≡ front ++ (line_put section (spacing_put manner front line) key v manner line line.outline.newline ++ back)
 
--- the key of a line that makes the table has the names behind the address of its section
+-- names alone lead from the section of a line that makes the table to the table
 abbrev pub IsKeyed : Address → Standing → Type 0
 IsKeyed q s = is_sought_line sought.Dotted q s ≡ true → (section : Address) × (key : Key) × (s.base ≡ Some (length section)) × (q ≡ below section key)
 

@@ -48,23 +48,24 @@ ws_ahead layout [] = []
 ws_ahead layouts.Plain (s ∷ ss) = []
 ws_ahead layouts.Follow (s ∷ ss) = if is_comment s then ws_ahead layouts.Follow ss else s.outline.ws
 
--- that of the first line of its section; these lines stand before it
+-- the whitespace of the first line of a section whose header begins with this; these lines stand before the header
 abbrev pub spacing_below : Layout → List ℕ → List Standing → Spacing
 spacing_below layout ws front = laid_out layout (spacing_like ws (like_before ws front))
 
 -- the new header, and the line behind it, between lines
-abbrev pub new_section : Address → List ℕ → ValueOutline → Manner → List Standing → List Standing → List Standing
-new_section q name v manner front back = let ws = ws_ahead manner.layout back in
+abbrev pub section_standing : Address → List ℕ → ValueOutline → Manner → List Standing → List Standing → List Standing
+section_standing q name v manner front back = let ws = ws_ahead manner.layout back in
     new_header q One ws manner.newline ∷ new_standing_in q (spacing_below manner.layout ws front) (name ∷ []) v manner.newline ∷ []
 
--- they are put in before the first header at the address or below it; by layout `Follow` before the comment lines directly above that
+-- a new header and the line behind it are put in before the first header at the address or below it; by layout `Follow` before the comment
+-- lines directly above that
 abbrev pub put_ahead : Address → List ℕ → ValueOutline → Manner → List Standing → List Standing → List Standing
 put_ahead q name v manner front [] = []
 put_ahead q name v manner front (s ∷ ss) =
-    if lead_below manner.layout q (s ∷ ss) then new_section q name v manner front (s ∷ ss) ++ s ∷ ss
+    if lead_below manner.layout q (s ∷ ss) then section_standing q name v manner front (s ∷ ss) ++ s ∷ ss
     else s ∷ put_ahead q name v manner (front ++ s ∷ []) ss
 
--- lines have a header below the table, none of it, and no dotted key makes it
+-- lines have a header below the address, of a table or an array there, none at it, and no dotted key makes a table at it
 pub record AreImplied (q : Address) (ss : List Standing) : Type 0 where
   pub below : list_any (is_sought_line sought.HeaderBelow q) ss ≡ true
   pub no_header : list_any (is_sought_line sought.Header q) ss ≡ false
@@ -82,14 +83,14 @@ abbrev pub LeadsAhead : Layout → List Standing → List Standing → Type 0
 LeadsAhead layouts.Plain front between = between ≡ []
 LeadsAhead layouts.Follow front between = (list_any is_no_comment between ≡ false) × EndsUncommented front
 
--- so the place is ahead of the header at the other; it is that of a line of its slot, or right behind them
+-- The place is ahead of the header at the other, by the layout. It is that of one of the lines of its slot, or right behind the last one.
 pub record GoesAhead (layout : Layout) (read : Read) (slots : List Slot) (next at : Position) : Type 0 where
   pub inside : IsInSlot read slots at
   pub between : List Standing
   pub is : lines_before read slots next.slot next.index ≡ lines_before read slots at.slot at.index ++ between
   pub leads : LeadsAhead layout (lines_before read slots at.slot at.index) between
 
--- by layout `Follow` where there is a line
+-- where there is a line at the first place, the other is ahead of it by layout `Follow`
 abbrev pub IsAboveComments : Read → List Slot → Position → Position → Type 0
 IsAboveComments read slots next at = (s : Standing) → line_at read slots next ≡ Some s → GoesAhead layouts.Follow read slots next at
 
@@ -103,7 +104,8 @@ abbrev pub IsAhead : Layout → Read → List Slot → Position → Position →
 IsAhead layout read slots next at ws = (s : Standing) → line_at read slots next ≡ Some s
     → GoesAhead layout read slots next at × (leaf_text ws ≡ ws_like layout s)
 
--- so the first line below that header begins, which begins with `own`
+-- ahead of the line at a place, if there is one, the first line of a section whose header begins with `own` has this whitespace, and this
+-- around its `=`
 abbrev pub LaysOutBelow : Layout → List ℕ → Read → List Slot → Position → Leaf → Option Equals → Type 0
 LaysOutBelow layout own read slots next ws equals = (s : Standing) → line_at read slots next ≡ Some s
     → spaced_by (leaf_text ws) (around equals) ≡ spacing_below layout own (lines_before read slots next.slot next.index)
@@ -113,11 +115,12 @@ abbrev pub PutsSection : Address → Brackets → List ℕ → List (String Glob
 PutsSection q brackets ws steps style line read at old now = AreSpellings q (map string_bytes steps) → IsInSlot read old at → (text : List ℕ)
     → EachIs (SlotKept text read) old → BodyKept text read line.body
     → EachIs (SlotKept text read) now
-    × (slots_standing read now ≡ lines_before read old at.slot at.index ++ new_header q brackets ws style ∷ line_standing read line ∷ lines_from read old at.slot at.index)
+    × (slots_standing read now
+    ≡ lines_before read old at.slot at.index ++ new_header q brackets ws style ∷ line_standing read line ∷ lines_from read old at.slot at.index)
 
 -- ---- on a tree
 
--- so it is put in, where the line at the place is the first header below the table
+-- a name is put into the table, where the line at the place is the first header at it or below it
 abbrev pub PutsAhead : Address → Address → List (String Global) → ValueOutline → Read → Position → Tree → Tree → Type 0
 PutsAhead q at steps v read next old now = (name : List ℕ) → at ≡ child q name → AreSteps at steps → (ss : List Standing)
     → Stands (text_of old.texts.source) read old.slots.items ss
@@ -125,7 +128,7 @@ PutsAhead q at steps v read next old now = (name : List ℕ) → at ≡ child q 
     → LacksSought sought.HeaderBelow q (lines_before read old.slots.items next.slot next.index)
     → Stands (text_of old.texts.source) read now.slots.items (put_ahead q name v (manner old) [] ss)
 
--- so it is put in on lines of a tree, as the table rules have them; the root needs no header
+-- a name is put into the table on lines of a tree that are as the table rules have them; the root needs no header
 abbrev pub TreePutsAhead : Address → Address → List (String Global) → ValueOutline → Read → Tree → Tree → Type 0
 TreePutsAhead q at steps v read old now = ¬ (q ≡ []) → (name : List ℕ) → at ≡ child q name → AreSteps at steps → (ss : List Standing)
     → Stands (text_of old.texts.source) read old.slots.items ss → AreOrdered ss → AreImplied q ss

@@ -1,4 +1,4 @@
--- `insert` of a name in a table that is no value and is not the root, whatever makes the table.
+-- `insert` of a name in a table that is not the root, is no value and lies in none, whatever makes the table.
 use Rattle.std.specs.Prelude.{List}
 use Rattle.std.specs.declared.alloc.Global.{Global}
 use Rattle.std.specs.declared.string.String.{String}
@@ -10,7 +10,7 @@ use Rattle.toml_working.specs.ImpliedTables.{TreePutsAhead}
 use Rattle.toml_working.specs.Sections.{TreePutsBelow}
 use Rattle.toml_working.specs.Standing.{Read}
 
--- a header, a dotted key, or longer headers
+-- what it does where the table has a header, where dotted keys make it, and where longer headers imply it
 pub record TreePutsIn (q at : Address) (steps : List (String Global)) (v : ValueOutline) (read : Read) (old now : Tree) : Type 0 where
   pub header : TreePutsBelow q at steps v read old now
   pub dotted : TreePutsDotted q at steps v read old now

@@ -1,4 +1,5 @@
--- `insert` of a name at the root, or in a table that has a header: a new line. The line of any key.
+-- `insert` of a name at the root, or in a table that has a header: a new line. And the new line of any key, in
+-- whatever table.
 use Rattle.std.specs.Prelude.{ℕ, Bool, true, false, ◌&&◌, not, is_some, List, [], ◌∷◌, ◌++◌, if◌then◌else◌, None}
 use Rattle.toml_tree.specs.Bare.{fresh}
 use Rattle.toml_tree.specs.Tree.{Assign, Value, Expr, BlankLine, KeyValLine, TableLine, ArrayTableLine, Line}

@@ -1,5 +1,5 @@
--- `insert` of a name in a table that has no header: a new line in the section whose dotted keys make the table, or a new header and a line before
--- the first header below it.
+-- `insert` of a name in any table that is no value: where it has no header, a new line in the section whose dotted keys make it, or a new header
+-- and a line before the first header below it.
 use Rattle.std.specs.Prelude.{ℕ, Bool, false, ◌||◌, List, [], ◌∷◌, ◌++◌, length, map, drop, if◌then◌else◌}
 use Rattle.std.specs.List.{list_any}
 use Rattle.toml_tree.specs.Tree.{Value, BlankLine, KeyValLine, TableLine, ArrayTableLine, Line}
@@ -21,11 +21,11 @@ use Rattle.toml_working.specs.Standing.{Standing, line_stands, standing}
 -- ---- a table that dotted keys make
 
 -- whether a line with a key and a value stands below the table, before the first header; these lines stand in a section
-abbrev pub has_inside : Address → Address → List Line → Bool
-has_inside section q [] = false
-has_inside section q (l ∷ ls) = elim l.expr [
-  | BlankLine b ↦ has_inside section q ls
-  | KeyValLine ws pair tail ↦ is_above q (below section (key_names pair.assign.key)) || has_inside section q ls
+abbrev pub has_in_table : Address → Address → List Line → Bool
+has_in_table section q [] = false
+has_in_table section q (l ∷ ls) = elim l.expr [
+  | BlankLine b ↦ has_in_table section q ls
+  | KeyValLine ws pair tail ↦ is_above q (below section (key_names pair.assign.key)) || has_in_table section q ls
   | TableLine ws header tail ↦ false
   | ArrayTableLine ws header tail ↦ false
 ]
@@ -34,7 +34,7 @@ has_inside section q (l ∷ ls) = elim l.expr [
 -- below the table
 abbrev pub has_more : Layout → Address → Address → List Line → Bool
 has_more layouts.Plain section q ls = has_pair ls
-has_more layouts.Follow section q ls = has_inside section q ls
+has_more layouts.Follow section q ls = has_in_table section q ls
 
 -- the names of the address behind so many steps
 abbrev pub key_behind : ℕ → Address → Key

@@ -28,7 +28,7 @@ pub record HasDotted (lines : List Line) (q : Address) : Type 0 where
   pub no_header : list_any (is_sought_line sought.Header q) (standing lines) ≡ false
   pub dotted : list_any (is_sought_line sought.Dotted q) (standing lines) ≡ true
 
--- the next step behind the address is a name
+-- the second address lies below the first, and its next step behind that is a name
 abbrev pub is_child_below : Address → Address → Bool
 is_child_below [] [] = false
 is_child_below [] (Name n ∷ a) = true

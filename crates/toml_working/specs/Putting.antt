@@ -94,7 +94,8 @@ PutsSlots read at line old now = at.slot < length old → (text : List ℕ) → 
     → EachIs (SlotKept text read) now
     × (slots_standing read now ≡ lines_before read old at.slot at.index ++ line_standing read line ∷ lines_from read old at.slot at.index)
 
--- where the place is that of a line of its slot, or right behind them, the new line is then the first one from there on, and those before stay
+-- where the place is that of one of the lines of its slot, or right behind the last one, the new line is then the first one from there on, and
+-- those before stay
 abbrev pub PutsThere : Read → Position → Line → List Slot → List Slot → Type 0
 PutsThere read at line old now = IsInSlot read old at → (text : List ℕ) → EachIs (SlotKept text read) old → BodyKept text read line.body
     → (at.slot < length now) × (lines_before read now at.slot at.index ≡ lines_before read old at.slot at.index)

@@ -9,48 +9,48 @@ use Rattle.toml_layout.specs.declared.layout.Layout.{Layout}
 use Rattle.toml_layout.specs.declared.layout.Layout.TheVariants as layouts
 use Rattle.toml_working.specs.declared.lines.Slot.{Slot}
 use Rattle.toml_working.specs.declared.working.Position.{Position}
-use Rattle.toml_working.specs.DottedTables.{StandsInside, has_inside, has_more, is_inside, stands_inside}
+use Rattle.toml_working.specs.DottedTables.{StandsInTable, has_in_table, has_more, is_in_table, stands_in_table}
 use Rattle.toml_working.specs.Placing.{IsNoHeader, IsPair, lines_from}
 use Rattle.toml_working.specs.Sections.{is_of_section}
 use Rattle.toml_working.specs.Seeing.{line_at, read_by}
 use Rattle.toml_working.specs.Standing.{Standing, Read}
 
 -- the place of a line with a key and a value strictly below the table, or the last one of those before it
-abbrev pub inside_at : Address → Option ℕ → Option Address → Position → Option Position → Option Position
-inside_at q base own at last = if stands_inside q base own then Some at else last
+abbrev pub in_table_at : Address → Option ℕ → Option Address → Position → Option Position → Option Position
+in_table_at q base own at last = if stands_in_table q base own then Some at else last
 
-abbrev pub IsOutside : Address → Standing → Type 0
-IsOutside q s = is_inside q s ≡ false
+abbrev pub IsNotInTable : Address → Standing → Type 0
+IsNotInTable q s = is_in_table q s ≡ false
 
 -- the line at the place is the last such one of those in front, of which these are left
-pub record IsLastInside (q : Address) (read : Read) (slots : List Slot) (front rest : List Standing) (at : Position) : Type 0 where
+pub record IsLastInTable (q : Address) (read : Read) (slots : List Slot) (front rest : List Standing) (at : Position) : Type 0 where
   pub before : List Standing
   pub line : Standing
   pub between : List Standing
   pub is : front ≡ before ++ line ∷ between
-  pub inside : is_inside q line ≡ true
-  pub none : EachIs (IsOutside q) between
+  pub in_table : is_in_table q line ≡ true
+  pub none : EachIs (IsNotInTable q) between
   pub there : line_at read slots at ≡ Some line
   pub next : at.index + 1 < 2 ^ 64
   pub from : lines_from read slots at.slot at.index ≡ line ∷ (between ++ rest)
 
 -- so far no header was passed, and this is the last such line
-pub record PassedInside (q : Address) (read : Read) (slots : List Slot) (all rest : List Standing) (last : Option Position) : Type 0 where
+pub record PassedInTable (q : Address) (read : Read) (slots : List Slot) (all rest : List Standing) (last : Option Position) : Type 0 where
   pub front : List Standing
   pub is : all ≡ front ++ rest
   pub heads : EachIs IsNoHeader front
-  pub found : MatchOption last (EachIs (IsOutside q) front) (IsLastInside q read slots front rest)
+  pub found : MatchOption last (EachIs (IsNotInTable q) front) (IsLastInTable q read slots front rest)
 
 -- a slot is passed, or what is left begins with a header
-abbrev pub PassedInsideBy : Address → Read → List Slot → List Standing → ℕ → Bool → Option Position → Type 0
-PassedInsideBy q read slots all slot true last = (rest : List Standing) × (has_inside q rest ≡ false) × PassedInside q read slots all rest last
-PassedInsideBy q read slots all slot false last = PassedInside q read slots all (lines_from read slots (slot + 1) 0) last
+abbrev pub PassedInTableBy : Address → Read → List Slot → List Standing → ℕ → Bool → Option Position → Type 0
+PassedInTableBy q read slots all slot true last = (rest : List Standing) × (has_in_table q rest ≡ false) × PassedInTable q read slots all rest last
+PassedInTableBy q read slots all slot false last = PassedInTable q read slots all (lines_from read slots (slot + 1) 0) last
 
-abbrev pub PassesInside : Address → List ReadUnit → List Slot → ℕ → ℕ → Option Position → Bool → Option Position → Type 0
-PassesInside q units slots slot index last ends found = (lines : List tree.Line) (all : List Standing) → let read = read_by units lines in
-    PassedInside q read slots all (lines_from read slots slot index) last → PassedInsideBy q read slots all slot ends found
+abbrev pub PassesInTable : Address → List ReadUnit → List Slot → ℕ → ℕ → Option Position → Bool → Option Position → Type 0
+PassesInTable q units slots slot index last ends found = (lines : List tree.Line) (all : List Standing) → let read = read_by units lines in
+    PassedInTable q read slots all (lines_from read slots slot index) last → PassedInTableBy q read slots all slot ends found
 
--- the line at the place is the last one that is meant of these, before the first header
+-- the line at the place is the last one of these with a key and a value before the first header, by layout `Follow` the last one of the table
 pub record IsLastFor (layout : Layout) (q : Address) (read : Read) (slots : List Slot) (all : List Standing) (at : Position) : Type 0 where
   pub front : List Standing
   pub line : Standing
@@ -58,23 +58,23 @@ pub record IsLastFor (layout : Layout) (q : Address) (read : Read) (slots : List
   pub is : all ≡ front ++ line ∷ back
   pub heads : EachIs IsNoHeader front
   pub pair : IsPair line
-  pub inside : StandsInside layout q line
+  pub in_table : StandsInTable layout q line
   pub none : has_more layout q back ≡ false
   pub there : line_at read slots at ≡ Some line
   pub next : at.index + 1 < 2 ^ 64
   pub from : lines_from read slots at.slot at.index ≡ line ∷ back
 
--- or there is none
-abbrev pub FindsInside : Address → Read → List Slot → List Standing → Option Position → Type 0
-FindsInside q read slots all result = MatchOption result (has_inside q all ≡ false) (IsLastFor layouts.Follow q read slots all)
+-- of lines of the table that is found, or there is none
+abbrev pub FindsInTable : Address → Read → List Slot → List Standing → Option Position → Type 0
+FindsInTable q read slots all result = MatchOption result (has_in_table q all ≡ false) (IsLastFor layouts.Follow q read slots all)
 
--- from a place on
-abbrev pub FindsLastInside : Address → List ReadUnit → List Slot → Position → Option Position → Type 0
-FindsLastInside q units slots from result = (lines : List tree.Line) → let read = read_by units lines in
-    FindsInside q read slots (lines_from read slots from.slot from.index) result
+-- of the lines from a place on that is found, or there is none
+abbrev pub FindsLastInTable : Address → List ReadUnit → List Slot → Position → Option Position → Type 0
+FindsLastInTable q units slots from result = (lines : List tree.Line) → let read = read_by units lines in
+    FindsInTable q read slots (lines_from read slots from.slot from.index) result
 
-abbrev pub IsInsideFrom : Address → List ReadUnit → List Slot → Position → Position → Type 0
-IsInsideFrom q units slots start at = (lines : List tree.Line) → let read = read_by units lines in
+abbrev pub IsLastInTableFrom : Address → List ReadUnit → List Slot → Position → Position → Type 0
+IsLastInTableFrom q units slots start at = (lines : List tree.Line) → let read = read_by units lines in
     IsLastFor layouts.Follow q read slots (lines_from read slots start.slot start.index) at
 
 -- it is the last one from this place on, or from another on, and then it stands in the section
@@ -94,4 +94,4 @@ FindsTableEnd section q units slots from result = (lines : List tree.Line) → F
 -- such a line is found where the line at the place is one
 abbrev pub EndsTable : Layout → Address → Address → List ReadUnit → List Slot → Position → Position → Type 0
 EndsTable layout section q units slots from at = (lines : List tree.Line) → let read = read_by units lines in
-    (s : Standing) → line_at read slots from ≡ Some s → is_inside q s ≡ true → EndsAmong layout section q read slots from at
+    (s : Standing) → line_at read slots from ≡ Some s → is_in_table q s ≡ true → EndsAmong layout section q read slots from at

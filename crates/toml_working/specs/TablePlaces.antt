@@ -1,4 +1,4 @@
--- Where a table stands that has no header: the line whose dotted key makes it, or the first header at it or below it.
+-- Where a table stands that has no header: the line whose dotted key makes it, or the first header below it.
 use Rattle.std.specs.Prelude.{◌≡◌, ◌+◌, ◌<◌, ◌^◌, ℕ, true, List, take, Option, Some, IfSome, MatchOption, slice_get}
 use Rattle.std.specs.List.{list_any}
 use Rattle.toml_names.specs.model.Addresses.{Address}
@@ -18,6 +18,7 @@ use Rattle.toml_working.specs.Standing.{Read, slot_standing, slots_standing}
 abbrev pub LacksBefore : Sought → Address → Read → ℕ → Slot → Type 0
 LacksBefore what p read index s = LacksSought what p (take index (slot_standing read s))
 
+-- so it is of the line that is found in a slot, if one is
 abbrev pub FindsFirstIn : Sought → Address → List ReadUnit → Slot → Option ℕ → Type 0
 FindsFirstIn what p units slot result = (lines : List tree.Line) → IfSome result (λ i. LacksBefore what p (read_by units lines) i slot)
 
@@ -25,6 +26,7 @@ FindsFirstIn what p units slot result = (lines : List tree.Line) → IfSome resu
 abbrev pub IsFirstIn : Sought → Address → Read → List Slot → ℕ → Position → Type 0
 IsFirstIn what p read slots slot at = (at.slot ≡ slot) × IfSome (slice_get slots slot) (LacksBefore what p read at.index)
 
+-- so it is of the place that is found, if one is
 abbrev pub FindsFirst : Sought → Address → List ReadUnit → List Slot → ℕ → Option Position → Type 0
 FindsFirst what p units slots slot result = (lines : List tree.Line) → IfSome result (IsFirstIn what p (read_by units lines) slots slot)
 
@@ -50,7 +52,7 @@ abbrev pub FindsDotted : Address → List ReadUnit → List Slot → Option Tabl
 FindsDotted p units slots result = (lines : List tree.Line) → let ss = slots_standing (read_by units lines) slots in LacksSought sought.Header p ss
     → list_any (is_sought_line sought.Dotted p) ss ≡ true → (place : TablePlace) × (result ≡ Some place) × IsDottedPlace place
 
--- ---- the first header at the table or below it
+-- ---- the first header below the table
 
 -- it is the place of a line in the slot, before which no such header stands there
 abbrev pub IsImpliedIn : Address → Read → List Slot → ℕ → TablePlace → Type 0

@@ -1,11 +1,12 @@
-//! Where the section of a table ends, by a guess: else many insertions into one long section would each go through all of it.
+//! Behind which line of a section, or of a table of dotted keys in it, a new line goes. The end of the section is a guess: else many insertions into one long
+//! section would each go through all of it.
 ghost use Rattle.std.specs.Prelude.{◌≡◌, IfSome, OnOk, true};
 ghost use Rattle.toml_layout.specs.OpenOutlines.{value};
 ghost use Rattle.toml_working.specs.Putting.{TreePutsBehind};
 ghost use Rattle.toml_working.specs.Sections.{FindsSectionEnd, IsEndFrom, IsOfSectionAt};
 ghost use Rattle.toml_working.specs.Starting.{read_of};
 ghost use Rattle.toml_working.specs.Stands.{KeepsRest};
-ghost use Rattle.toml_working.specs.TableEnds.{EndsTable, FindsLastInside, FindsTableEnd, IsInsideFrom, PassesInside};
+ghost use Rattle.toml_working.specs.TableEnds.{EndsTable, FindsLastInTable, FindsTableEnd, IsLastInTableFrom, PassesInTable};
 
 use crate::inserting::Insertion;
 use crate::steps::begins;
@@ -80,7 +81,7 @@ impl<'x> Tree<'x> {
     }
 
     /// The last line with a key and a value strictly below a table, from a place in its section on, before the next header. The guess
-    /// is taken where its line stands in that section.
+    /// is taken where its line stands in that section and a line of the table stands there or behind.
     fn last_of_table(
         &self,
         before: Before<'_, 'x>,
@@ -90,46 +91,46 @@ impl<'x> Tree<'x> {
     ) -> Option<Position>
         ensures { FindsTableEnd section.now table.now before.entry.units.now self.now.slots.items from result }
     {
-        match self.guessed_inside(before, section, table) {
+        match self.guessed_in_table(before, section, table) {
             Some(found) => Some(found),
-            None => self.last_inside(before, from, table),
+            None => self.last_in_table(before, from, table),
         }
     }
 
     /// The last line with a key and a value strictly below a table, from the guess on, where the guess and that line stand in the section: where
     /// the guess does, that line does too, and the second look is for the proof.
-    fn guessed_inside(
+    fn guessed_in_table(
         &self,
         before: Before<'_, 'x>,
         section: &[Step],
         table: &Address,
     ) -> Option<Position>
         ensures last { let start = self.now.section_end in
-            IfSome result (IsInsideFrom table.now before.entry.units.now self.now.slots.items start) }
+            IfSome result (IsLastInTableFrom table.now before.entry.units.now self.now.slots.items start) }
         ensures there { IfSome result (IsOfSectionAt section.now before.entry.units.now self.now.slots.items) }
     {
         if !self.is_of_section(before, self.section_end, section) {
             return None;
         }
-        match self.last_inside(before, self.section_end, table) {
+        match self.last_in_table(before, self.section_end, table) {
             Some(found) if self.is_of_section(before, found, section) => Some(found),
             _ => None,
         }
     }
 
     /// The last line with a key and a value strictly below the address, from the place on, before the next header line.
-    fn last_inside(
+    fn last_in_table(
         &self,
         before: Before<'_, 'x>,
         from: Position,
         address: &Address,
     ) -> Option<Position>
-        ensures { FindsLastInside address.now before.entry.units.now self.now.slots.items from result }
+        ensures { FindsLastInTable address.now before.entry.units.now self.now.slots.items from result }
     {
         let mut last = None;
         let mut skip = from.index;
         for slot in from.slot..self.slots.len() {
-            let (found, ends) = self.inside_in(before, slot, skip, address, last);
+            let (found, ends) = self.table_lines_in(before, slot, skip, address, last);
             if ends {
                 return found;
             }
@@ -141,7 +142,7 @@ impl<'x> Tree<'x> {
 
     /// The last line of a slot with a key and a value strictly below the address, before a header line of it, or the last one before the
     /// slot; and whether there is a header line. So many lines are passed over.
-    fn inside_in(
+    fn table_lines_in(
         &self,
         before: Before<'_, 'x>,
         slot: usize,
@@ -149,7 +150,7 @@ impl<'x> Tree<'x> {
         address: &Address,
         last: Option<Position>,
     ) -> (Option<Position>, bool)
-        ensures { PassesInside address.now before.entry.units.now self.now.slots.items slot skip last result.1 result.0 }
+        ensures { PassesInTable address.now before.entry.units.now self.now.slots.items slot skip last result.1 result.0 }
     {
         let Some(lines) = self.slots.get(slot) else {
             return (last, true);
@@ -162,7 +163,7 @@ impl<'x> Tree<'x> {
             if line.is_header() {
                 return (found, true);
             }
-            found = line.inside_at(address, Position { slot, index }, found);
+            found = line.in_table_at(address, Position { slot, index }, found);
         }
         (found, false)
     }

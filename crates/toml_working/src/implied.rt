@@ -17,7 +17,7 @@ use toml_names::Address;
 impl<'x> Tree<'x> {
     /// Puts a header line for the parent, and a line behind it, in before the first header line below the parent; by layout `Follow`
     /// before the comment lines above that one, and as that one begins.
-    pub(crate) fn insert_before(
+    pub(crate) fn insert_ahead(
         &mut self,
         before: Before<'_, 'x>,
         next: Position,
@@ -56,7 +56,8 @@ impl<'x> Tree<'x> {
         }
     }
 
-    /// The place of the first of the comment lines that stand directly above a line, or its own.
+    /// The place right behind the last line above a place that is no comment line, or that of the first line: what stands from there up to
+    /// that place are comment lines.
     fn above_comments(&self, before: Before<'_, 'x>, at: Position) -> Result<Position, AllocError>
         ensures { IfOk result (IsAboveComments (read_of before.entry) self.now.slots.items at) }
     {

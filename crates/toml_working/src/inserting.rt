@@ -29,7 +29,7 @@ pub(crate) struct Insertion<'a, 'x> {
 
 impl<'x> Tree<'x> {
     /// Puts a value in at the address; `spelled` are the spellings of its steps, and `named` is the place that the document's
-    /// names have for the parent. It answers `false` where the parent is no table, and no array in a value.
+    /// names have for the parent. Of a parent that is a table or an array it answers `false` where that is an array of tables.
     pub fn insert(
         &mut self,
         before: Before<'_, 'x>,
@@ -110,7 +110,7 @@ impl<'x> Tree<'x> {
                 self.insert_in_section(before, behind, base, insertion)
             }
             Some(TablePlace::Implicit(header)) => {
-                self.insert_before(before, header, parent, insertion)
+                self.insert_ahead(before, header, parent, insertion)
             }
             None => Ok(false),
         }

@@ -1,4 +1,4 @@
-//! What stands beside a line, by layout `Follow`: where a line with a key and a value goes, and how it begins.
+//! How a line with a key and a value begins, by layout `Follow`: as its neighbours do.
 ghost use Rattle.std.specs.Prelude.{IfOk};
 ghost use Rattle.toml_layout.specs.OpenOutlines.{leaf_text};
 ghost use Rattle.toml_working.specs.Looking.{BeginsBehind, LaysOut};

@@ -10,7 +10,7 @@ ghost use Rattle.toml_working.specs.RemoveStanding.{makes, makes_apart, parts_to
 ghost use Rattle.toml_working.specs.RenameStanding.{part_number};
 ghost use Rattle.toml_working.specs.Seeing.{heads, heads_below, is_dotted, is_sought, seen, steps_to};
 ghost use Rattle.toml_working.specs.Standing.{leads_to, lies_below};
-ghost use Rattle.toml_working.specs.TableEnds.{inside_at};
+ghost use Rattle.toml_working.specs.TableEnds.{in_table_at};
 
 use crate::lines::{Seen, Sought};
 use crate::steps::{element_of, is_at_or_above, is_same_way, names_in};
@@ -63,13 +63,13 @@ impl Seen<'_> {
     }
 
     /// Its place, if it has a key and a value and stands strictly below the address, or the last one of those before it.
-    pub(crate) fn inside_at(
+    pub(crate) fn in_table_at(
         self,
         address: &Address,
         place: Position,
         last: Option<Position>,
     ) -> Option<Position>
-        ensures { result ≡ inside_at address.now self.entry.base (lent self.entry.address) place last }
+        ensures { result ≡ in_table_at address.now self.entry.base (lent self.entry.address) place last }
     {
         match (self.base, self.address) {
             (Some(_), Some(own)) if address.is_above(own) => Some(place),

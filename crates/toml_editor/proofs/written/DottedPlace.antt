@@ -13,9 +13,9 @@ use Rattle.toml_layout.specs.declared.layout.Layout.{Layout}
 use Rattle.toml_layout.specs.declared.layout.Layout.TheVariants as layouts
 use Rattle.toml_layout.specs.Spacings.{Spacing}
 use Rattle.toml_working.specs.declared.lines.Sought.TheVariants as sought
-use Rattle.toml_working.specs.DottedTables.{StandsInside, stands_inside}
+use Rattle.toml_working.specs.DottedTables.{StandsInTable, stands_in_table}
 use Rattle.toml_working.specs.Inserting.{has_pair, line_put, put_last, spacing_behind}
-use Rattle.toml_working.specs.InsertingInTables.{has_inside, has_more, insert_among, insert_in, is_maker_of, key_behind}
+use Rattle.toml_working.specs.InsertingInTables.{has_in_table, has_more, insert_among, insert_in, is_maker_of, key_behind}
 use Rattle.toml_working.specs.Manners.{Manner}
 use Rattle.toml_working.specs.Premises.{HasDotted}
 use Rattle.toml_working.specs.Seeing.{is_sought_line}
@@ -67,12 +67,12 @@ module _ (layout : Layout) (s q : Address) where
       by layouts.Plain = refl
       by layouts.Follow = refl
 
-  inside_heads : (l : Line) (ls : List Line) → has_inside s q (l ∷ ls) ≡ true → IsHeadless l.expr
-  inside_heads l ls is = by l.expr is
+  in_table_heads : (l : Line) (ls : List Line) → has_in_table s q (l ∷ ls) ≡ true → IsHeadless l.expr
+  in_table_heads l ls is = by l.expr is
     where
       by : (e : Expr) → elim e [
-        | BlankLine b ↦ has_inside s q ls
-        | KeyValLine ws pair tail ↦ is_above q (below s (key_names pair.assign.key)) || has_inside s q ls
+        | BlankLine b ↦ has_in_table s q ls
+        | KeyValLine ws pair tail ↦ is_above q (below s (key_names pair.assign.key)) || has_in_table s q ls
         | TableLine ws header tail ↦ false
         | ArrayTableLine ws header tail ↦ false
       ] ≡ true → IsHeadless e
@@ -86,7 +86,7 @@ module _ (layout : Layout) (s q : Address) where
     where
       by : (o : Layout) → has_more o s q (l ∷ ls) ≡ true → IsHeadless l.expr
       by layouts.Plain h = pair_heads l ls h
-      by layouts.Follow h = inside_heads l ls h
+      by layouts.Follow h = in_table_heads l ls h
 
   pair_keyed : (l : Line) (ls : List Line) → has_pair (l ∷ ls) ≡ true → has_pair ls ≡ false → IsKeyed l.expr
   pair_keyed l ls is none = by l.expr is
@@ -102,17 +102,17 @@ module _ (layout : Layout) (s q : Address) where
   first_of true b h none = refl
   first_of false b h none = absurd (true≢false (sym h ∙ none))
 
-  inside_keyed : (l : Line) (ls : List Line) → has_inside s q (l ∷ ls) ≡ true → has_inside s q ls ≡ false → IsKeyed l.expr × IsWithin layouts.Follow l.expr
-  inside_keyed l ls is none = by l.expr is
+  in_table_keyed : (l : Line) (ls : List Line) → has_in_table s q (l ∷ ls) ≡ true → has_in_table s q ls ≡ false → IsKeyed l.expr × IsWithin layouts.Follow l.expr
+  in_table_keyed l ls is none = by l.expr is
     where
       by : (e : Expr) → elim e [
-        | BlankLine b ↦ has_inside s q ls
-        | KeyValLine ws pair tail ↦ is_above q (below s (key_names pair.assign.key)) || has_inside s q ls
+        | BlankLine b ↦ has_in_table s q ls
+        | KeyValLine ws pair tail ↦ is_above q (below s (key_names pair.assign.key)) || has_in_table s q ls
         | TableLine ws header tail ↦ false
         | ArrayTableLine ws header tail ↦ false
       ] ≡ true → IsKeyed e × IsWithin layouts.Follow e
       by (BlankLine b) h = absurd (true≢false (sym h ∙ none))
-      by (KeyValLine ws pair tail) h = (tt, first_of (is_above q (below s (key_names pair.assign.key))) (has_inside s q ls) h none)
+      by (KeyValLine ws pair tail) h = (tt, first_of (is_above q (below s (key_names pair.assign.key))) (has_in_table s q ls) h none)
       by (TableLine ws header tail) h = absurd (true≢false (sym h))
       by (ArrayTableLine ws header tail) h = absurd (true≢false (sym h))
 
@@ -121,20 +121,20 @@ module _ (layout : Layout) (s q : Address) where
     where
       by : (o : Layout) → has_more o s q (l ∷ ls) ≡ true → has_more o s q ls ≡ false → IsKeyed l.expr × IsWithin o l.expr
       by layouts.Plain h n = (pair_keyed l ls h n, tt)
-      by layouts.Follow h n = inside_keyed l ls h n
+      by layouts.Follow h n = in_table_keyed l ls h n
 
   -- such a line stands below the table
-  within_stands : (xs : List Named) (l : Line) → section xs ≡ s → IsKeyed l.expr → IsWithin layout l.expr → StandsInside layout q (line_stands xs l)
+  within_stands : (xs : List Named) (l : Line) → section xs ≡ s → IsKeyed l.expr → IsWithin layout l.expr → StandsInTable layout q (line_stands xs l)
   within_stands xs l there keyed within = by layout within
     where
-      follow : (e : Expr) → l.expr ≡ e → IsKeyed e → IsWithin layouts.Follow e → stands_inside q (line_base xs l.expr) (own_address xs l.expr) ≡ true
+      follow : (e : Expr) → l.expr ≡ e → IsKeyed e → IsWithin layouts.Follow e → stands_in_table q (line_base xs l.expr) (own_address xs l.expr) ≡ true
       follow (BlankLine b) is k w = absurd k
       follow (KeyValLine ws pair tail) is k w =
-          ap (λ e. stands_inside q (line_base xs e) (own_address xs e)) is ∙ ap (λ a. is_above q (below a (key_names pair.assign.key))) there ∙ w
+          ap (λ e. stands_in_table q (line_base xs e) (own_address xs e)) is ∙ ap (λ a. is_above q (below a (key_names pair.assign.key))) there ∙ w
       follow (TableLine ws header tail) is k w = absurd k
       follow (ArrayTableLine ws header tail) is k w = absurd k
 
-      by : (o : Layout) → IsWithin o l.expr → StandsInside o q (line_stands xs l)
+      by : (o : Layout) → IsWithin o l.expr → StandsInTable o q (line_stands xs l)
       by layouts.Plain w = tt
       by layouts.Follow w = follow l.expr refl keyed w
 
@@ -195,7 +195,7 @@ module _ (q : Address) (name : List ℕ) (v : Value) (manner : Manner) where
     pub back : List Line
     pub parts : before ++ maker ∷ mid ≡ front ++ line ∷ []
     pub keyed : IsKeyed line.expr
-    pub inside : StandsInside manner.layout q (line_stands (named front) line)
+    pub in_table : StandsInTable manner.layout q (line_stands (named front) line)
     pub last : has_more manner.layout section_at q back ≡ false
     pub was : old ≡ front ++ line ∷ back
     pub is : new ≡ front ++ line_put (spacing_behind manner line) key v manner line back
@@ -266,7 +266,7 @@ module _ (q : Address) (name : List ℕ) (v : Value) (manner : Manner) where
           back = ls;
           parts = refl;
           keyed = maker_keyed;
-          inside = within_stands manner.layout s q xs maker refl maker_keyed maker_within;
+          in_table = within_stands manner.layout s q xs maker refl maker_keyed maker_within;
           last = none;
           was = refl;
           is = ap (λ r. before ++ r) (cond-false _ _ _ none);
@@ -292,7 +292,7 @@ module _ (q : Address) (name : List ℕ) (v : Value) (manner : Manner) where
               back = one.back;
               parts = sym (append_assoc before (maker ∷ one.mid) (one.line ∷ []));
               keyed = one.keyed;
-              inside = within_stands manner.layout s q (named front) one.line (section_is_kept one.mid one.headless) one.keyed one.within;
+              in_table = within_stands manner.layout s q (named front) one.line (section_is_kept one.mid one.headless) one.keyed one.within;
               last = one.last;
               was = ap (λ r. before ++ maker ∷ r) one.was ∙ sym (append_assoc before (maker ∷ one.mid) (one.line ∷ one.back));
               is =

@@ -11,7 +11,7 @@ use Rattle.toml_units.specs.Units.{line_base}
 use Rattle.toml_layout.specs.declared.layout.Layout.{Layout}
 use Rattle.toml_layout.specs.declared.layout.Layout.TheVariants as layouts
 use Rattle.toml_layout.specs.TreeOutlines.{line_outline, value_outline}
-use Rattle.toml_working.specs.DottedTables.{PutsDotted, has_inside, has_more, is_maker, makes_from, stands_inside}
+use Rattle.toml_working.specs.DottedTables.{PutsDotted, has_in_table, has_more, is_maker, makes_from, stands_in_table}
 use Rattle.toml_working.specs.FirstKeys.{spacing_put}
 use Rattle.toml_working.specs.Inserting as lines
 use Rattle.toml_working.specs.InsertingInTables as tree
@@ -35,9 +35,9 @@ use Rattle.toml_editor.proofs.written.TablesStay.{any_at}
 -- ---- the lines behind a place
 
 -- lines below the table, by their tree
-inside_same : (q s : Address) (ls : List Line) (xs : List Named) (n : ℕ) → section xs ≡ s → has_inside q (standing_from xs n ls) ≡ tree.has_inside s q ls
-inside_same q s [] xs n there = refl
-inside_same q s (l ∷ ls) xs n there = by l.expr refl (λ head. inside_same q s ls (xs ++ named_by xs n l.expr) (n + 1) (section_line xs n l.expr head ∙ there))
+in_table_same : (q s : Address) (ls : List Line) (xs : List Named) (n : ℕ) → section xs ≡ s → has_in_table q (standing_from xs n ls) ≡ tree.has_in_table s q ls
+in_table_same q s [] xs n there = refl
+in_table_same q s (l ∷ ls) xs n there = by l.expr refl (λ head. in_table_same q s ls (xs ++ named_by xs n l.expr) (n + 1) (section_line xs n l.expr head ∙ there))
   where
     rest : List Standing
     rest = standing_from (xs ++ named_by xs n l.expr) (n + 1) ls
@@ -46,37 +46,37 @@ inside_same q s (l ∷ ls) xs n there = by l.expr refl (λ head. inside_same q s
     either true c = refl
     either false c = refl
 
-    by : (e : Expr) → l.expr ≡ e → (IsHeadless l.expr → has_inside q rest ≡ tree.has_inside s q ls)
-        → cond (stands_inside q (line_base xs l.expr) (own_address xs l.expr)) true (not (is_header (line_base xs l.expr) (own_address xs l.expr)) && has_inside q rest)
+    by : (e : Expr) → l.expr ≡ e → (IsHeadless l.expr → has_in_table q rest ≡ tree.has_in_table s q ls)
+        → cond (stands_in_table q (line_base xs l.expr) (own_address xs l.expr)) true (not (is_header (line_base xs l.expr) (own_address xs l.expr)) && has_in_table q rest)
         ≡ elim l.expr [
-          | BlankLine b ↦ tree.has_inside s q ls
-          | KeyValLine ws pair tail ↦ is_above q (below s (key_names pair.assign.key)) || tree.has_inside s q ls
+          | BlankLine b ↦ tree.has_in_table s q ls
+          | KeyValLine ws pair tail ↦ is_above q (below s (key_names pair.assign.key)) || tree.has_in_table s q ls
           | TableLine ws header tail ↦ false
           | ArrayTableLine ws header tail ↦ false
         ]
     by e is more = subst (λ x. Same x) (sym is) (at e (λ head. more (subst IsHeadless (sym is) head)))
       where
         Same : Expr → Type 0
-        Same x = cond (stands_inside q (line_base xs x) (own_address xs x)) true (not (is_header (line_base xs x) (own_address xs x)) && has_inside q rest)
+        Same x = cond (stands_in_table q (line_base xs x) (own_address xs x)) true (not (is_header (line_base xs x) (own_address xs x)) && has_in_table q rest)
             ≡ elim x [
-              | BlankLine b ↦ tree.has_inside s q ls
-              | KeyValLine ws pair tail ↦ is_above q (below s (key_names pair.assign.key)) || tree.has_inside s q ls
+              | BlankLine b ↦ tree.has_in_table s q ls
+              | KeyValLine ws pair tail ↦ is_above q (below s (key_names pair.assign.key)) || tree.has_in_table s q ls
               | TableLine ws header tail ↦ false
               | ArrayTableLine ws header tail ↦ false
             ]
 
-        at : (x : Expr) → (IsHeadless x → has_inside q rest ≡ tree.has_inside s q ls) → Same x
+        at : (x : Expr) → (IsHeadless x → has_in_table q rest ≡ tree.has_in_table s q ls) → Same x
         at (BlankLine b) same = same tt
         at (KeyValLine ws pair tail) same =
             ap₂ (λ a c. cond (is_above q (below a (key_names pair.assign.key))) true c) there (same tt)
-            ∙ either (is_above q (below s (key_names pair.assign.key))) (tree.has_inside s q ls)
+            ∙ either (is_above q (below s (key_names pair.assign.key))) (tree.has_in_table s q ls)
         at (TableLine ws header tail) same = refl
         at (ArrayTableLine ws header tail) same = refl
 
 more_same : (layout : Layout) (q s : Address) (ls : List Line) (xs : List Named) (n : ℕ) → section xs ≡ s
     → has_more layout q (standing_from xs n ls) ≡ tree.has_more layout s q ls
 more_same layouts.Plain q s ls xs n there = has_same ls xs n
-more_same layouts.Follow q s ls xs n there = inside_same q s ls xs n there
+more_same layouts.Follow q s ls xs n there = in_table_same q s ls xs n there
 
 -- ---- the new line
 
@@ -155,7 +155,7 @@ module _ (q : Address) (name : List ℕ) (v : Value) (manner : Manner) (old new 
     back = behind;
     was = ap standing put.was ∙ standing_behind put.front (l ∷ put.back) [];
     among = inl of_section;
-    inside = put.inside;
+    in_table = put.in_table;
     last = more_same manner.layout q put.section_at put.back (xs ++ named_by xs n l.expr) (n + 1) there ∙ put.last;
     is =
         ap standing put.is ∙ standing_behind put.front (lines.line_put (lines.spacing_behind manner l) put.key v manner l put.back) []

@@ -20,7 +20,7 @@ use Rattle.toml_working.specs.declared.lines.Sought.TheVariants as sought
 use Rattle.toml_working.specs.FirstKeys.{like_before, spacing_like}
 use Rattle.toml_working.specs.Heading.{Shown, header_expr, header_line, shown}
 use Rattle.toml_working.specs.Headers.{has_below}
-use Rattle.toml_working.specs.ImpliedTables.{new_section, put_ahead, spacing_below, ws_ahead}
+use Rattle.toml_working.specs.ImpliedTables.{section_standing, put_ahead, spacing_below, ws_ahead}
 use Rattle.toml_working.specs.Inserting.{has_pair, new_line}
 use Rattle.toml_working.specs.InsertingInTables.{insert_ahead, insert_in}
 use Rattle.toml_working.specs.InsertStanding as stands
@@ -50,6 +50,7 @@ module _ (q : Address) (name : List ℕ) (v : Value) (manner : Manner) where
     pub back : List Line
     pub ws : List ℕ
     pub spacing : Spacing
+    pub not_root : ¬ (q ≡ [])
     pub some : ¬ (back ≡ [])
     pub was : old ≡ front ++ back
     pub is : new ≡ front ++ header_line One q ws manner.newline ∷ new_line spacing (name ∷ []) v manner.newline ∷ back
@@ -60,7 +61,7 @@ module _ (q : Address) (name : List ℕ) (v : Value) (manner : Manner) where
     pub ws_is : ws ≡ ws_ahead manner.layout (standing_from (named front) (length front) back)
     pub spacing_is : spacing ≡ spacing_below manner.layout ws (standing front)
     pub stands : put_ahead q name (value_outline v) manner [] (standing old)
-        ≡ standing front ++ (new_section q name (value_outline v) manner (standing front) (standing_from (named front) (length front) back)
+        ≡ standing front ++ (section_standing q name (value_outline v) manner (standing front) (standing_from (named front) (length front) back)
         ++ standing_from (named front) (length front) back)
 
   -- the header alone, put in there
@@ -230,6 +231,7 @@ module _ (q : Address) (name : List ℕ) (v : Value) (manner : Manner) (lines : 
     back = back;
     ws = ws;
     spacing = spacing_below manner.layout ws (standing front);
+    not_root = some;
     some = λ none. absurd (let e : ⊥ = cc in e);
     was = lines_are;
     is =
@@ -243,7 +245,7 @@ module _ (q : Address) (name : List ℕ) (v : Value) (manner : Manner) (lines : 
     spacing_is = refl;
     stands =
         ap (put_ahead q name (value_outline v) manner []) (sym (shown_stands lines (root ∷ []) 0)) ∙ it.stands
-        ∙ ap₂ (λ f b. f ++ (new_section q name (value_outline v) manner f b ++ b)) (sym front_stands) (sym back_stands);
+        ∙ ap₂ (λ f b. f ++ (section_standing q name (value_outline v) manner f b ++ b)) (sym front_stands) (sym back_stands);
   }
 
 -- Where no line makes the table, and one is a header below it, the new lines go there.

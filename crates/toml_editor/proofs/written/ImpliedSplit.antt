@@ -10,7 +10,7 @@ use Rattle.toml_layout.specs.TreeOutlines.{value_outline}
 use Rattle.toml_working.specs.declared.lines.Sought.TheVariants as sought
 use Rattle.toml_working.specs.Heading.{Shown}
 use Rattle.toml_working.specs.Headers.{has_below}
-use Rattle.toml_working.specs.ImpliedTables.{lead_below, new_section, put_ahead, ws_ahead}
+use Rattle.toml_working.specs.ImpliedTables.{lead_below, section_standing, put_ahead, ws_ahead}
 use Rattle.toml_working.specs.InsertingInTables.{insert_ahead, section_ahead}
 use Rattle.toml_working.specs.InsertStanding.{is_bare, is_comment}
 use Rattle.toml_working.specs.Manners.{Manner}
@@ -101,7 +101,7 @@ module _ (q : Address) (name : List ℕ) (v : Value) (manner : Manner) where
     pub lines : insert_ahead q name v manner front xs
         ≡ lines_of first ++ (section_ahead q name v manner (front ++ stand_of first) (stand_of (head ∷ rest)) ++ lines_of (head ∷ rest))
     pub stands : put_ahead q name (value_outline v) manner front (stand_of xs)
-        ≡ stand_of first ++ (new_section q name (value_outline v) manner (front ++ stand_of first) (stand_of (head ∷ rest)) ++ stand_of (head ∷ rest))
+        ≡ stand_of first ++ (section_standing q name (value_outline v) manner (front ++ stand_of first) (stand_of (head ∷ rest)) ++ stand_of (head ∷ rest))
 
   pub scanned : (xs : List Shown) (front : List Standing) → has_below q (stand_of xs) ≡ true → IsScanned front xs
   scanned [] front has = absurd (true≢false (sym has))
@@ -117,7 +117,7 @@ module _ (q : Address) (name : List ℕ) (v : Value) (manner : Manner) where
         lead = lead;
         none = refl;
         lines = cond-true _ _ _ lead ∙ ap (λ f. section_ahead q name v manner f (s ∷ stand_of xs) ++ l ∷ lines_of xs) (sym (append-nil front));
-        stands = cond-true _ _ _ lead ∙ ap (λ f. new_section q name (value_outline v) manner f (s ∷ stand_of xs) ++ s ∷ stand_of xs) (sym (append-nil front));
+        stands = cond-true _ _ _ lead ∙ ap (λ f. section_standing q name (value_outline v) manner f (s ∷ stand_of xs) ++ s ∷ stand_of xs) (sym (append-nil front));
       }
       by false past more =
           let here = not_lead q manner.layout s (stand_of xs) past in
@@ -136,5 +136,5 @@ module _ (q : Address) (name : List ℕ) (v : Value) (manner : Manner) where
                 ∙ ap (λ f. l ∷ (lines_of found.first ++ (section_ahead q name v manner f (stand_of back) ++ lines_of back))) group;
             stands =
                 cond-false _ _ _ past ∙ ap (λ r. s ∷ r) found.stands
-                ∙ ap (λ f. s ∷ (stand_of found.first ++ (new_section q name (value_outline v) manner f (stand_of back) ++ stand_of back))) group;
+                ∙ ap (λ f. s ∷ (stand_of found.first ++ (section_standing q name (value_outline v) manner f (stand_of back) ++ stand_of back))) group;
           }

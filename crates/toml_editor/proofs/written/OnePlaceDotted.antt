@@ -10,7 +10,7 @@ use Rattle.toml_names.specs.declared.model.address.Step.TheVariants.{Index}
 use Rattle.toml_layout.specs.declared.layout.Layout.{Layout}
 use Rattle.toml_layout.specs.declared.layout.Layout.TheVariants as layouts
 use Rattle.toml_units.specs.Units.{line_base}
-use Rattle.toml_working.specs.DottedTables.{StandsAmong, StandsInside, has_inside, has_more, is_inside}
+use Rattle.toml_working.specs.DottedTables.{StandsAmong, StandsInTable, has_in_table, has_more, is_in_table}
 use Rattle.toml_working.specs.FirstKeys.{spacing_put}
 use Rattle.toml_working.specs.InsertStanding.{line_put}
 use Rattle.toml_working.specs.Placing.{IsPair, is_header}
@@ -30,26 +30,26 @@ abbrev IsHeaderAmong : List Standing → Type 0
 IsHeaderAmong = IsAmong (λ s. is_header s.base s.address ≡ true)
 
 -- a header stands before a line below the table that is not the last one in its section
-header_inside : (q : Address) (mid : List Standing) (t : Standing) (back : List Standing) → has_inside q (mid ++ t ∷ back) ≡ false → is_inside q t ≡ true → IsHeaderAmong mid
-header_inside q [] t back none inside =
-    absurd (true≢false (sym (ap (λ b. cond b true (not (is_header t.base t.address) && has_inside q back)) inside) ∙ none))
-header_inside q (m ∷ mid) t back none inside =
-    by (is_inside q m) refl (is_header m.base m.address) refl none (λ h. header_inside q mid t back h inside)
+header_in_table : (q : Address) (mid : List Standing) (t : Standing) (back : List Standing) → has_in_table q (mid ++ t ∷ back) ≡ false → is_in_table q t ≡ true → IsHeaderAmong mid
+header_in_table q [] t back none in_table =
+    absurd (true≢false (sym (ap (λ b. cond b true (not (is_header t.base t.address) && has_in_table q back)) in_table) ∙ none))
+header_in_table q (m ∷ mid) t back none in_table =
+    by (is_in_table q m) refl (is_header m.base m.address) refl none (λ h. header_in_table q mid t back h in_table)
   where
-    by : (a : Bool) → is_inside q m ≡ a → (b : Bool) → is_header m.base m.address ≡ b
-        → cond (is_inside q m) true (not (is_header m.base m.address) && has_inside q (mid ++ t ∷ back)) ≡ false
-        → (has_inside q (mid ++ t ∷ back) ≡ false → IsHeaderAmong mid) → IsHeaderAmong (m ∷ mid)
+    by : (a : Bool) → is_in_table q m ≡ a → (b : Bool) → is_header m.base m.address ≡ b
+        → cond (is_in_table q m) true (not (is_header m.base m.address) && has_in_table q (mid ++ t ∷ back)) ≡ false
+        → (has_in_table q (mid ++ t ∷ back) ≡ false → IsHeaderAmong mid) → IsHeaderAmong (m ∷ mid)
     by true is b head h more =
-        absurd (true≢false (sym (ap (λ x. cond x true (not (is_header m.base m.address) && has_inside q (mid ++ t ∷ back))) is) ∙ h))
+        absurd (true≢false (sym (ap (λ x. cond x true (not (is_header m.base m.address) && has_in_table q (mid ++ t ∷ back))) is) ∙ h))
     by false is true head h more = record { front = []; line = m; back = mid; is = refl; holds = head }
     by false is false head h more =
         among_behind (λ s. is_header s.base s.address ≡ true) (m ∷ []) mid
-        (more (sym (ap₂ (λ x y. cond x true (not y && has_inside q (mid ++ t ∷ back))) is head) ∙ h))
+        (more (sym (ap₂ (λ x y. cond x true (not y && has_in_table q (mid ++ t ∷ back))) is head) ∙ h))
 
 header_between : (layout : Layout) (q : Address) (mid : List Standing) (t : Standing) (back : List Standing) → has_more layout q (mid ++ t ∷ back) ≡ false
-    → IsPair t → StandsInside layout q t → IsHeaderAmong mid
-header_between layouts.Plain q mid t back none pair inside = header_within mid t back none pair
-header_between layouts.Follow q mid t back none pair inside = header_inside q mid t back none inside
+    → IsPair t → StandsInTable layout q t → IsHeaderAmong mid
+header_between layouts.Plain q mid t back none pair in_table = header_within mid t back none pair
+header_between layouts.Follow q mid t back none pair in_table = header_in_table q mid t back none in_table
 
 -- where a header stands between, and the section behind is a table's, one of them is the header of that
 header_again : (mid : List Standing) (r q : Address) → IsHeaderAmong mid → section_over r mid ≡ q → IsAmong (Heads q) mid
@@ -131,13 +131,13 @@ module _ (lines : List Line) (keeps : KeepsRules (named lines)) where
   -- so of two places none is before the other
   not_before : (layout : Layout) (q s : Address) (front : List Standing) (x : Standing) (mid : List Standing) (y : Standing) (back : List Standing)
       → standing lines ≡ front ++ x ∷ (mid ++ y ∷ back) → has_more layout q (mid ++ y ∷ back) ≡ false → StandsAmong s front x
-      → StandsAmong s (front ++ x ∷ mid) y → StandsInside layout q y → ⊥
-  not_before layout q s front x mid y back split none first second inside =
+      → StandsAmong s (front ++ x ∷ mid) y → StandsInTable layout q y → ⊥
+  not_before layout q s front x mid y back split none first second in_table =
       let are = document_sectioned lines in
       let regrouped : front ++ x ∷ (mid ++ y ∷ back) ≡ (front ++ x ∷ mid) ++ y ∷ back = sym (append_assoc front (x ∷ mid) (y ∷ back)) in
       let (over_x, pair_x) = among_section s front x (mid ++ y ∷ back) (subst (AreSectioned []) split are) first in
       let (over_y, pair_y) = among_section s (front ++ x ∷ mid) y back (subst (AreSectioned []) (split ∙ regrouped) are) second in
-      not_twice s front x mid y back split over_x pair_x over_y (header_between layout q mid y back none pair_y inside)
+      not_twice s front x mid y back split over_x pair_x over_y (header_between layout q mid y back none pair_y in_table)
 
 -- ---- one place
 
@@ -147,11 +147,11 @@ one_place_among q name v manner lines now new keeps h g = elim (two_places h.fro
   | inr (inl later) ↦
       absurd (not_before lines keeps manner.layout q h.section h.front h.line later.mid g.line g.back
       (h.was ∙ ap (λ r. h.front ++ h.line ∷ r) later.back_is) (ap (has_more manner.layout q) (sym later.back_is) ∙ h.last) h.among
-      (subst (λ f. StandsAmong h.section f g.line) later.front_is (subst (λ s. StandsAmong s g.front g.line) (sym sections) g.among)) g.inside)
+      (subst (λ f. StandsAmong h.section f g.line) later.front_is (subst (λ s. StandsAmong s g.front g.line) (sym sections) g.among)) g.in_table)
   | inr (inr later) ↦
       absurd (not_before lines keeps manner.layout q g.section g.front g.line later.mid h.line h.back
       (g.was ∙ ap (λ r. g.front ++ g.line ∷ r) later.back_is) (ap (has_more manner.layout q) (sym later.back_is) ∙ g.last) g.among
-      (subst (λ f. StandsAmong g.section f h.line) later.front_is (subst (λ s. StandsAmong s h.front h.line) sections h.among)) h.inside)
+      (subst (λ f. StandsAmong g.section f h.line) later.front_is (subst (λ s. StandsAmong s h.front h.line) sections h.among)) h.in_table)
 ]
   where
     sections : h.section ≡ g.section

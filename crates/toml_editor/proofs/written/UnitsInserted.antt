@@ -214,6 +214,6 @@ module _ (q : Address) (name : List ℕ) (v : Value) (manner : Manner) where
 pub insert_units : InsertUnits
 insert_units q name v manner lines there = elim (puts_lines q name v manner lines there) [
   | PutLine at first rest same s plain well ↦
-      OneLine at (first ∷ rest) same s plain (subst (λ a. IsBlockPut (units lines) (pair_line_units (fresh (pair_text s (first ∷ rest) v)) a (length at) v None) (units (insert_in q name v manner lines))) (sym same) well.put)
+      OneLine at (first ∷ rest) (λ e. cc) same s plain (subst (λ a. IsBlockPut (units lines) (pair_line_units (fresh (pair_text s (first ∷ rest) v)) a (length at) v None) (units (insert_in q name v manner lines))) (sym same) well.put)
   | PutBoth ws s plain well ↦ Both ws s plain well.put
 ]

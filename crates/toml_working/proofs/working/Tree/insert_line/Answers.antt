@@ -55,7 +55,7 @@ returns-in-Some-Implicit-clause-implied c =
     let tree = c.args.self.now in
     let q = c.args.parent.now in
     let read = read_of c.args.before in
-    on_ok_weaker c.insert_before.result
+    on_ok_weaker c.insert_ahead.result
     (λ puts not_root name at_is spellings ss stands ordered implied.
     let (place, is, first) = c.in-Some-Implicit.ensures.implied read.lines
     (ap (list_any (is_sought_line Header q)) stands.are ∙ implied.no_header) (ap (list_any (is_sought_line Dotted q)) stands.are ∙ implied.no_dotted)
@@ -63,4 +63,4 @@ returns-in-Some-Implicit-clause-implied c =
     puts name at_is spellings ss stands
     (subst (IsTableLine q read tree.slots.items) c.in-Some-Implicit.field-0-is (c.in-Some-Implicit.ensures.finds read.lines))
     (subst (IsImpliedPlace q read tree.slots.items) (sym (same_Some _ _ is) ∙ c.in-Some-Implicit.field-0-is) first))
-    c.insert_before.ensures.put
+    c.insert_ahead.ensures.put

@@ -2,7 +2,7 @@ use Rattle.std.proofs.Common.{subst, sym}
 use Rattle.toml_layout.specs.declared.layout.Layout.TheVariants as layouts
 use Rattle.toml_working.specs.Seeing.{read_by}
 use Rattle.toml_working.specs.TableEnds.{FindsEnd}
-use Rattle.toml_working.proofs.LastInside.{end_found, plain_end}
+use Rattle.toml_working.proofs.LastInTable.{end_found, plain_end}
 use Rattle.toml_working.proofs.working.Tree.table_end.Goals.{in-Plain, in-Follow}
 use Rattle.toml_working.proofs.working.Tree.table_end.Goals as goal
 

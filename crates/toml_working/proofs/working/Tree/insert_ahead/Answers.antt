@@ -3,7 +3,7 @@ use Rattle.std.proofs.lemmas.Result.{on_ok_weaker}
 use Rattle.toml_layout.specs.OpenOutlines.{value}
 use Rattle.toml_working.specs.Starting.{read_of}
 use Rattle.toml_working.proofs.PutAhead.{puts_ahead}
-use Rattle.toml_working.proofs.working.Tree.insert_before.Goals as goal
+use Rattle.toml_working.proofs.working.Tree.insert_ahead.Goals as goal
 
 pub returns-clause-put : goal.returns-clause-put
 returns-clause-put c =
