@@ -1,5 +1,5 @@
-//! Behind which line of a section, or of a table of dotted keys in it, a new line goes. The end of the section is a guess: else many insertions into one long
-//! section would each go through all of it.
+//! Behind which line of a section, or of a table of dotted keys in it, a new line goes. The end of the section is a guess: else many
+//! insertions into one long section would each go through all of it.
 ghost use Rattle.std.specs.Prelude.{◌≡◌, IfSome, OnOk, true};
 ghost use Rattle.toml_layout.specs.OpenOutlines.{value};
 ghost use Rattle.toml_working.specs.Putting.{TreePutsBehind};

@@ -2,13 +2,13 @@
 use Rattle.std.proofs.Common.{◌≡◌, ℕ, Some, List, [], ◌∷◌, ◌++◌, refl}
 use Rattle.toml_scalar.specs.Values.{name_of}
 use Rattle.toml_tree.specs.Bare.{fresh}
-use Rattle.toml_tree.specs.Tree.{BlankLine, TableLine, Line}
+use Rattle.toml_tree.specs.Tree.{ArrayTableLine, BlankLine, Key, TableLine, Line}
 use Rattle.toml_names.specs.declared.model.address.Step.TheVariants.{Name}
 use Rattle.toml_names.specs.model.Addresses.{Address, child}
 use Rattle.toml_working.specs.InsertingInTables.{insert_in}
 use Rattle.toml_working.specs.Manners.{Manner}
-use Rattle.toml_editor.proofs.written.Examples.{digit, dotted, empty, ended, follow, header, key, keyval, nine, no_tail, plain, table, text, third}
-use Rattle.toml_editor.proofs.written.ExamplesBelow.{elements, no_bytes, t}
+use Rattle.toml_editor.proofs.written.Examples.{array, digit, dotted, empty, ended, follow, header, key, keyval, nine, no_tail, plain, table, text, third}
+use Rattle.toml_editor.proofs.written.ExamplesBelow.{elements, no_bytes, t, u}
 
 -- the table `a`, and lines with `f` in a table
 abbrev a : Address
@@ -65,6 +65,32 @@ among_section = refl
 ahead_of_longer : put_in a by_plain (table_line ∷ longer_line [] ∷ no_bytes ∷ []) ≡ table ++ own ++ below_own ++ longer
 unfolding name_of
 ahead_of_longer = refl
+
+-- behind a last line, which gets the newline: `a.b = 1`, `a.f = 9`
+abbrev last_line : Line
+last_line = record { expr = keyval (dotted 0x61 0x62) (digit 0x31); newline = empty }
+
+among_last : put_in a by_plain (last_line ∷ []) ≡ made ++ 0x61 ∷ 0x2E ∷ 0x66 ∷ 0x20 ∷ 0x3D ∷ 0x20 ∷ 0x39 ∷ []
+unfolding name_of
+among_last = refl
+
+-- a name that is no bare key: `a.b = 1`, `a." " = 9`
+among_quoted : text (insert_in a (0x20 ∷ []) nine by_plain (dotted_line ∷ no_bytes ∷ []))
+    ≡ made ++ 0x61 ∷ 0x2E ∷ 0x22 ∷ 0x20 ∷ 0x22 ∷ 0x20 ∷ 0x3D ∷ 0x20 ∷ 0x39 ∷ 0x0A ∷ []
+unfolding name_of
+among_quoted = refl
+
+-- in an element of an array of tables, the index left out: `[[u]]`, `[u.a]`, `f = 9`, `[u.a.b]`
+abbrev array_line : Line
+array_line = ended (ArrayTableLine empty (header (key 0x75)) no_tail)
+
+abbrev deep_key : Key
+deep_key = record (key 0x75) { rest = (dotted 0x75 0x61).rest ++ (dotted 0x61 0x62).rest }
+
+ahead_in_element : put_in (child u (0x61 ∷ [])) by_plain (array_line ∷ ended (TableLine empty (header deep_key) no_tail) ∷ no_bytes ∷ [])
+    ≡ array ++ 0x5B ∷ 0x75 ∷ 0x2E ∷ 0x61 ∷ 0x5D ∷ 0x0A ∷ (below_own ++ 0x5B ∷ 0x75 ∷ 0x2E ∷ 0x61 ∷ 0x2E ∷ 0x62 ∷ 0x5D ∷ 0x0A ∷ [])
+unfolding name_of
+ahead_in_element = refl
 
 -- ---- in layout `Follow`
 
