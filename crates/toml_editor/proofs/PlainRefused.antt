@@ -15,9 +15,11 @@ use Rattle.toml_names.specs.model.Data.{IsClosed, Kinds}
 use Rattle.toml_names.specs.model.Places.{IsNamed}
 use Rattle.toml_names.proofs.Proved.{lines_are_closed}
 use Rattle.toml_edits.specs.declared.fault.EditFault.TheVariants.{NotAName, NotAnElement, RootNamed}
+use Rattle.toml_edits.specs.After.{IsAfter}
 use Rattle.toml_edits.specs.Edits as edits
 use Rattle.toml_edits.specs.Edits.{Change}
 use Rattle.toml_edits.specs.Faults.{IsFault}
+use Rattle.toml_edits.proofs.Proved.{some_after}
 use Rattle.toml_editor.specs.Edited.{MayBeSpread, OfDefined, TakesLastElement, TellsWith}
 use Rattle.toml_editor.specs.LastTexts.{HasContainerAt}
 use Rattle.toml_editor.specs.PlainAnswers.{IsNoInsert, OnlyRefusedIsTold, PlainSoFar, refusal}
@@ -28,7 +30,6 @@ use Rattle.toml_working.specs.Manners.{manner_of}
 use Rattle.toml_working.specs.Premises.{IsInNoValue}
 use Rattle.toml_working.specs.Standing.{holds, standing}
 use Rattle.toml_editor.proofs.PlainAnswers.{here, of_tree}
-use Rattle.toml_editor.proofs.written.DefinedAfter.{Makes, element_makes, removed_makes, section_makes, set_makes}
 use Rattle.toml_editor.proofs.written.Elsewhere.{style_is_newline}
 use Rattle.toml_editor.proofs.written.Fitting.{last_step, unnamed}
 use Rattle.toml_editor.proofs.written.HeldElements.{element_held}
@@ -64,18 +65,21 @@ module _ (layout : Layout) (profile : Profile) (before : List ℕ) (cs : List Ch
   on_tree P e f spells again holds = subst (λ (x : Doc). P x.lines) (one_tree e f between spells.0 again.0) holds
 
   module _ (c : Change) (is : slice_get cs n ≡ Some c) (none : IsFault profile c mid None) (neither : IsNeitherPlainNorHeld layout profile before cs n) where
+    abbrev Makes : Type 0
+    Makes = (now : Kinds) × IsAfter profile c mid now
+
     -- once the edit makes something, the text is told to be neither
-    not_either : Makes profile c mid → ¬ IsPlainOrHeld profile between c
+    not_either : Makes → ¬ IsPlainOrHeld profile between c
     not_either makes =
         of_tree layout profile before cs n between mid so_far
         (λ x. AfterPlain layout profile before cs x n (λ y text. ¬ IsPlainOrHeld profile text y)) neither c is so_far.old mid makes.0 so_far.facts so_far.lead none
         makes.1 so_far.plain between so_far.written
 
     -- so it is not plain on the one tree, nor held
-    no_plain : Makes profile c mid → (e : Doc) → SpellsIn profile e between → ¬ IsPlain e.lines c
+    no_plain : Makes → (e : Doc) → SpellsIn profile e between → ¬ IsPlain e.lines c
     no_plain makes e spells plain = not_either makes (λ f again. inl (on_tree (λ ls. IsPlain ls c) e f spells again plain))
 
-    no_holder : Makes profile c mid → (e : Doc) → SpellsIn profile e between → ¬ HasContainerFor e.lines c
+    no_holder : Makes → (e : Doc) → SpellsIn profile e between → ¬ HasContainerFor e.lines c
     no_holder makes e spells held = not_either makes (λ f again. inr (on_tree (λ ls. HasContainerFor ls c) e f spells again held))
 
   -- ---- each edit
@@ -84,7 +88,7 @@ module _ (layout : Layout) (profile : Profile) (before : List ℕ) (cs : List Ch
     set_refused : (p : Address) (text : List ℕ) → slice_get cs n ≡ Some (edits.set p text) → IsFault profile (edits.set p text) mid None
         → IsRefusedIn profile between (edits.set p text)
     set_refused p text is none e spells there =
-        set_makes profile p text mid none (λ makes. no_plain (edits.set p text) is none neither makes e spells there)
+        some_after profile (edits.set p text) mid closed tt none (λ makes. no_plain (edits.set p text) is none neither makes e spells there)
 
     section_refused : (p : Address) → slice_get cs n ≡ Some (edits.new_section p) → IsFault profile (edits.new_section p) mid None
         → IsRefusedIn profile between (edits.new_section p)
@@ -93,11 +97,13 @@ module _ (layout : Layout) (profile : Profile) (before : List ℕ) (cs : List Ch
         by : (p ≡ []) ⊎ ((q : Address) × (s : Step) × (p ≡ q ++ s ∷ [])) → IsRefusedIn profile between (edits.new_section p)
         by (inl root) = absurd (none RootNamed root)
         by (inr (q, Index i, at)) = absurd (none NotAName (q, i, at))
-        by (inr (q, Name name, at)) =
-            let makes : Makes profile (edits.new_section p) mid =
-            subst (λ x. Makes profile (edits.new_section x) mid) (sym at)
-            (section_makes profile q name mid closed (subst (λ x. IsFault profile (edits.new_section x) mid None) at none)) in
-            (q, Name name, at, (λ e spells outside. no_plain (edits.new_section p) is none neither makes e spells (q, name, at, outside)))
+        by (inr (q, Name name, at)) = (
+          q,
+          Name name,
+          at,
+          (λ e spells outside.
+              some_after profile (edits.new_section p) mid closed tt none (λ makes. no_plain (edits.new_section p) is none neither makes e spells (q, name, at, outside))),
+        )
 
     element_refused : (p : Address) → slice_get cs n ≡ Some (edits.new_element p) → IsFault profile (edits.new_element p) mid None
         → IsRefusedIn profile between (edits.new_element p)
@@ -107,11 +113,13 @@ module _ (layout : Layout) (profile : Profile) (before : List ℕ) (cs : List Ch
         by (inl root) = absurd (none RootNamed root)
         by (inr (q, Name name, at)) =
             absurd (none NotAnElement (λ r m i own. (let x = (same_from_push q (child r m) (Name name) (Index i) (sym at ∙ own)).1 in cc)))
-        by (inr (q, Index i, at)) =
-            let makes : Makes profile (edits.new_element p) mid =
-            subst (λ x. Makes profile (edits.new_element x) mid) (sym at)
-            (element_makes profile q i mid closed (subst (λ x. IsFault profile (edits.new_element x) mid None) at none)) in
-            (q, Index i, at, (λ e spells outside. no_plain (edits.new_element p) is none neither makes e spells (q, i, at, outside)))
+        by (inr (q, Index i, at)) = (
+          q,
+          Index i,
+          at,
+          (λ e spells outside.
+              some_after profile (edits.new_element p) mid closed tt none (λ makes. no_plain (edits.new_element p) is none neither makes e spells (q, i, at, outside))),
+        )
 
     -- an element whose array is a line's value, or in one, is held
     remove_refused : (p : Address) → slice_get cs n ≡ Some (edits.remove p) → IsFault profile (edits.remove p) mid None
@@ -138,12 +146,10 @@ module _ (layout : Layout) (profile : Profile) (before : List ℕ) (cs : List Ch
         outside : IsInNoValue lines q
         outside = by (list_any (holds q) (standing lines)) refl
           where
-            makes : Makes profile (edits.remove p) mid
-            makes = subst (λ a. Makes profile (edits.remove a) mid) (sym own) (removed_makes profile q 0 mid)
-
             by : (b : Bool) → list_any (holds q) (standing lines) ≡ b → list_any (holds q) (standing lines) ≡ false
             by false none_over = none_over
-            by true over = absurd (no_holder (edits.remove p) is none neither makes good.tree good.spelled (held over))
+            by true over = absurd (some_after profile (edits.remove p) mid closed tt none
+                (λ makes. no_holder (edits.remove p) is none neither makes good.tree good.spelled (held over)))
 
   refused : (c : Change) → slice_get cs n ≡ Some c → IsNoInsert c → TellsWith layout profile before cs (refusal n c) → IsRefusedIn profile between c
   refused (edits.insert p text) is not_insert told = absurd not_insert

@@ -16,7 +16,6 @@ pub mod Counted
 pub mod CountedAlike
 pub mod CountedArrays
 pub mod Deep
-pub mod DefinedAfter
 pub mod DocumentSections
 pub mod DottedKeys
 pub mod DottedPlace

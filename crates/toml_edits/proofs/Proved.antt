@@ -12,6 +12,7 @@ pub use Rattle.toml_edits.proofs.OnLists.{carried_on, one_lead, fault_or_lead, o
 pub use Rattle.toml_edits.proofs.Standing.{carried_stands}
 pub use Rattle.toml_edits.proofs.ListFronts.{lists_carry_fronts, carried_keep_order, fronts_stand}
 pub use Rattle.toml_edits.proofs.ListsApart.{lists_carry_apart}
+pub use Rattle.toml_edits.proofs.Possible.{some_after}
 pub use Rattle.toml_edits.proofs.PutValues.{values_stand, values_are_new}
 pub use Rattle.toml_edits.proofs.StaysClosed.{stays_closed, leads_stay_closed}
 pub use Rattle.toml_edits.proofs.NearLists.{leads_beside, leads_near, hidden_stays, faults_near, fault_beside}

@@ -1,11 +1,12 @@
 -- Laws of edits, over the definitions alone.
-use Rattle.std.specs.Prelude.{◌≡◌, ℕ, List, [], ◌∷◌, ◌++◌, length, Some, None, IsSome, option_map}
+use Rattle.std.specs.Prelude.{◌≡◌, ◌-◌, ◌^◌, ℕ, List, [], ◌∷◌, ◌++◌, length, Some, None, IsSome, option_map}
 use Rattle.toml_tree.specs.declared.profile.Profile.{Profile}
 use Rattle.toml_names.specs.declared.model.address.Step.{Step}
 use Rattle.toml_names.specs.declared.model.datum.Datum.{Datum}
 use Rattle.toml_names.specs.model.Addresses.{Address, IsAbove, element}
 use Rattle.toml_names.specs.model.Data.{Kinds, kind_at, IsClosed}
 use Rattle.toml_names.specs.mentions.Mentions.{a_table, an_array}
+use Rattle.toml_names.specs.model.Indices.{IsLow}
 use Rattle.toml_edits.specs.After.{IsAfter}
 use Rattle.toml_edits.specs.Carry.{Carrier, carry, carry_below, nowhere, parted}
 use Rattle.toml_edits.specs.Edits.{Change, set, insert, new_section, new_element, place}
@@ -69,6 +70,16 @@ CarriedApart = (profile : Profile) (c : Change) (kinds : Kinds) → IsClosed kin
 -- An edit makes one thing of data: two maps that are what it makes are equal.
 abbrev pub OneAfter : Type 0
 OneAfter = (profile : Profile) (c : Change) (old one two : Kinds) → IsAfter profile c old one → IsAfter profile c old two → (a : Address) → one a ≡ two a
+
+-- An `insert` raises indices: each of them has room to rise by one.
+abbrev pub HasRoom : Change → Kinds → Type 0
+HasRoom (insert at value) kinds = (a : Address) → IsSome (kinds a) → IsLow (2 ^ 64 - 1) a
+HasRoom _ kinds = Unit {0}
+
+-- Of data in which nothing stands below nothing, an edit without a fault makes something. That a text is a value is told by what it
+-- is not.
+abbrev pub SomeAfter : Type 0
+SomeAfter = (profile : Profile) (c : Change) (old : Kinds) → IsClosed old → HasRoom c old → IsFault profile c old None → ¬ ¬ ((new : Kinds) × IsAfter profile c old new)
 
 -- For `set`, the place's own old fact aside, the facts move as the edit carries them.
 abbrev pub SetCarries : Type 0

@@ -7,7 +7,7 @@ ghost use Rattle.toml_edits.specs.Laws.{CarriedAlong, CarriedFront, CarriedApart
 ghost use Rattle.toml_edits.specs.Fitting.{CarriedStayLow, CarriesRest};
 ghost use Rattle.toml_edits.specs.Notes.{SeenIsCarried};
 ghost use Rattle.toml_edits.specs.Sides.{SidesAreRight};
-ghost use Rattle.toml_edits.specs.Laws.{ElementIsEmpty, NewTablesStay, SectionIsEmpty, SetCarries, ValuesAreNew, ValuesStand};
+ghost use Rattle.toml_edits.specs.Laws.{ElementIsEmpty, NewTablesStay, SectionIsEmpty, SetCarries, SomeAfter, ValuesAreNew, ValuesStand};
 
 /// What is below an address is carried along with it, unless the edit is below the address or a `set` at it. A
 /// beginning of what is carried is carried to a beginning as long. Where no fault holds, and nothing stands below
@@ -29,10 +29,11 @@ pub fn closed()
     ensures indices { DataIndicesAreLow }
 {}
 
-/// An edit makes one thing of data. What a value that is set finds there moves as the edit carries it, the place's own
+/// An edit makes one thing of data, and without a fault it makes one. What a value that is set finds there moves as the edit carries it, the place's own
 /// fact aside.
 pub fn after()
     ensures one { OneAfter }
+    ensures some { SomeAfter }
     ensures set { SetCarries }
 {}
 
