@@ -6,9 +6,9 @@ pub if_ok_with : {X E : Type 0} (P : Type 0) (Q : X → Type 0) (r : Result X E)
 if_ok_with P Q (Ok x) p q = (p, q)
 if_ok_with P Q (Err e) p q = tt
 
-pub if_ok_and : {X E : Type 0} (P : X → Type 0) (Q : Type 0) (r : Result X E) → IfOk r P → OnOk r Q → IfOk r (λ x. P x × Q)
-if_ok_and P Q (Ok x) p q = (p, q)
-if_ok_and P Q (Err e) p q = tt
+pub if_ok_both : {X E : Type 0} (P Q : X → Type 0) (r : Result X E) → IfOk r P → IfOk r Q → IfOk r (λ x. P x × Q x)
+if_ok_both P Q (Ok x) p q = (p, q)
+if_ok_both P Q (Err e) p q = tt
 
 -- what follows of two things that are said of it
 pub if_ok_two : {X E : Type 0} (P Q R : X → Type 0) (r : Result X E) → ((x : X) → P x → Q x → R x) → IfOk r P → IfOk r Q → IfOk r R

@@ -44,7 +44,7 @@ use Rattle.toml_editor.proofs.written.InsertFollow.{insert_follows}
 use Rattle.toml_editor.proofs.written.RemoveNamed.{line_parts}
 use Rattle.toml_editor.proofs.written.RenameFollow.{rename_follows}
 use Rattle.toml_editor.proofs.written.HeaderFollow.{element_follows, element_refused, section_follows, section_refused}
-use Rattle.toml_editor.proofs.written.LastRefused.{last_refused}
+use Rattle.toml_editor.proofs.written.LastRefused.{insert_refused, last_refused}
 use Rattle.toml_editor.proofs.written.StandingOrder.{rules_order}
 use Rattle.toml_editor.proofs.written.Steps.{one_list_written}
 use Rattle.toml_working.specs.Manners.{Manner}
@@ -65,7 +65,7 @@ pub makes_one : (profile : Profile) (read : Read) (c : Change) (old new : Tree) 
 makes_one profile read (set p value) old new done writes text kinds now at none is_after plain =
     (set_made profile read p value old new done writes text kinds now at none is_after plain).1
 makes_one profile read (insert p value) old new done writes text kinds now at none is_after plain =
-    let (steps, rest, spelled, inserts, inside, below) = writes at.whole in
+    let (steps, rest, spelled, inserts, inside, below, no_element) = writes at.whole in
     let given = is_after.1.value in
     insert_follows profile read old new p value text kinds now at none is_after (plain at.good.tree at.good.spelled) rest
     given.tree given.is_value steps spelled (inserts given.within given.tree given.is_value) (below given.within given.tree given.is_value)
@@ -94,7 +94,7 @@ put_is_made near p value lines done (inr one) told q (Name n) is there = told �
 pub holds_one : (profile : Profile) (read : Read) (near : Kinds) (c : Change) (old new : Tree) (done : Bool) → WritesEdit profile read c old new done
     → (done ≡ true) ⊎ (¬ MayBeSpread c near) → HoldsOne profile read c old new
 holds_one profile read near (insert p value) old new done writes either text kinds now at is_after (q, last, is, not_root, there) =
-    let (steps, rest, spelled, inserts, inside, below) = writes at.whole in
+    let (steps, rest, spelled, inserts, inside, below, no_element) = writes at.whole in
     let given = is_after.1.value in
     let lines = at.good.tree.lines in
     let (opened, outlined, holds_it) = inside given.within given.tree given.is_value in
@@ -138,7 +138,7 @@ put_is_found : (profile : Profile) (read : Read) (p : Address) (value : List ℕ
     → (text : List ℕ) (kinds now : Kinds) → (at : IsAt profile read old text kinds) → IsAfter profile (insert p value) kinds now
     → HasContainerFor at.good.tree.lines (insert p value) → done ≡ true
 put_is_found profile read p value old new done writes text kinds now at is_after (q, last, is, not_root, held) =
-    let (steps, rest, spelled, inserts, inside, below) = writes at.whole in
+    let (steps, rest, spelled, inserts, inside, below, no_element) = writes at.whole in
     let given = is_after.1.value in
     let lines = at.good.tree.lines in
     let (opened, outlined, holds_it) = inside given.within given.tree given.is_value in
@@ -206,7 +206,10 @@ passes_one profile read near (set p value) old new done writes (inl is) text kin
     let given = is_after.1.value in
     refused at.good.tree at.good.spelled
     (set_is_there profile read old new p text kinds at (none RootNamed) given.tree done (sets given.within given.tree given.is_value) is)
-passes_one profile read near (insert p value) old new done writes (inl is) text kinds now at none is_after may refused = refused
+passes_one profile read near (insert p value) old new done writes (inl is) text kinds now at none is_after may refused =
+    let (steps, rest, spelled, inserts, inside, below, no_element) = writes at.whole in
+    let given = is_after.1.value in
+    true≢false (sym is ∙ insert_refused profile read old p value text kinds at done (no_element given.within given.tree given.is_value) refused)
 passes_one profile read near (rename p to) old new done writes (inl is) text kinds now at none is_after may refused = refused
 passes_one profile read near (remove p) old new done writes (inl is) text kinds now at none is_after may refused =
     true≢false (sym is ∙ last_refused profile read old p text kinds at none done (writes at.whole).2 refused)

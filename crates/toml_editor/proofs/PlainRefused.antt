@@ -9,20 +9,21 @@ use Rattle.toml_tree.specs.declared.profile.Profile.{Profile}
 use Rattle.toml_tree.proofs.Proved.{one_tree}
 use Rattle.toml_names.specs.declared.model.address.Step.{Step}
 use Rattle.toml_names.specs.declared.model.address.Step.TheVariants.{Index, Name}
-use Rattle.toml_names.specs.mentions.Mentions.{Kind, named}
+use Rattle.toml_names.specs.mentions.Mentions.{Kind, a_scalar, a_table, an_array, named}
 use Rattle.toml_names.specs.model.Addresses.{Address, child, element}
 use Rattle.toml_names.specs.model.Data.{IsClosed, Kinds}
 use Rattle.toml_names.specs.model.Places.{IsNamed}
 use Rattle.toml_names.proofs.Proved.{lines_are_closed}
-use Rattle.toml_edits.specs.declared.fault.EditFault.TheVariants.{NotAName, NotAnElement, RootNamed}
+use Rattle.toml_edits.specs.declared.fault.EditFault.TheVariants.{IndexOutside, NotAName, NotAnElement, RootNamed}
 use Rattle.toml_edits.specs.After.{IsAfter}
 use Rattle.toml_edits.specs.Edits as edits
 use Rattle.toml_edits.specs.Edits.{Change}
 use Rattle.toml_edits.specs.Faults.{IsFault}
+use Rattle.toml_edits.specs.Laws.{HasRoom}
 use Rattle.toml_edits.proofs.Proved.{some_after}
 use Rattle.toml_editor.specs.Edited.{MayBeSpread, OfDefined, TakesLastElement, TellsWith}
 use Rattle.toml_editor.specs.LastTexts.{HasContainerAt}
-use Rattle.toml_editor.specs.PlainAnswers.{IsNoInsert, OnlyRefusedIsTold, PlainSoFar, refusal}
+use Rattle.toml_editor.specs.PlainAnswers.{OnlyRefusedIsTold, PlainSoFar, refusal}
 use Rattle.toml_editor.specs.PlainTexts.{AfterPlain, HasContainerFor, IsNeitherPlainNorHeld, IsPlainOrHeld, IsRefusedIn}
 use Rattle.toml_editor.specs.Steps.{IsGoodText, IsPlain}
 use Rattle.toml_layout.specs.declared.layout.Layout.{Layout}
@@ -32,10 +33,13 @@ use Rattle.toml_working.specs.Standing.{holds, standing}
 use Rattle.toml_editor.proofs.PlainAnswers.{here, of_tree}
 use Rattle.toml_editor.proofs.written.Elsewhere.{style_is_newline}
 use Rattle.toml_editor.proofs.written.Fitting.{last_step, unnamed}
+use Rattle.toml_editor.proofs.written.HeldArrays.{array_held}
 use Rattle.toml_editor.proofs.written.HeldElements.{element_held}
 use Rattle.toml_editor.proofs.written.LoneElements.{lone_element}
-use Rattle.toml_editor.proofs.written.Pairwise.{Has, has_of_any, has_weaker}
+use Rattle.toml_editor.proofs.written.Closed.{no_end}
+use Rattle.toml_editor.proofs.written.Pairwise.{Has, has_of_any, has_weaker, taken}
 use Rattle.toml_editor.proofs.written.Steps.{plain_steps}
+use Rattle.toml_editor.proofs.written.ValuesAbove.{IsOver, value_over}
 
 module _ (layout : Layout) (profile : Profile) (before : List ℕ) (cs : List Change) (n : ℕ) (between : List ℕ) (mid : Kinds)
     (so_far : PlainSoFar layout profile before cs n between mid) where
@@ -121,6 +125,50 @@ module _ (layout : Layout) (profile : Profile) (before : List ℕ) (cs : List Ch
               some_after profile (edits.new_element p) mid closed tt none (λ makes. no_plain (edits.new_element p) is none neither makes e spells (q, i, at, outside))),
         )
 
+    -- what is to stand in an array that is a line's value, or in one, is held
+    insert_refused : (p : Address) (text : List ℕ) → slice_get cs n ≡ Some (edits.insert p text) → IsFault profile (edits.insert p text) mid None
+        → HasRoom (edits.insert p text) mid → MayBeSpread (edits.insert p text) mid → IsRefusedIn profile between (edits.insert p text)
+    insert_refused p text is none room (q, i, own) =
+        (q, i, own, (λ e spells. on_tree (λ ls. IsInNoValue ls q) good.tree e good.spelled spells outside))
+      where
+        array : mid q ≡ Some an_array
+        array = by (mid q) refl
+          where
+            no_array : ¬ (mid q ≡ Some an_array) → ⊥
+            no_array other = none IndexOutside (q, i, own, inl other)
+
+            by : (found : Option Kind) → mid q ≡ found → mid q ≡ Some an_array
+            by None at = absurd (no_array (λ there. (let x : ◌≡◌ {A = Option Kind} None (Some an_array) = sym at ∙ there in cc)))
+            by (Some (a_scalar v)) at = absurd (no_array (λ there. (let x : ◌≡◌ {A = Option Kind} (Some (a_scalar v)) (Some an_array) = sym at ∙ there in cc)))
+            by (Some a_table) at = absurd (no_array (λ there. (let x : ◌≡◌ {A = Option Kind} (Some a_table) (Some an_array) = sym at ∙ there in cc)))
+            by (Some an_array) at = at
+
+        not_root : list_any (holds q) (standing lines) ≡ true → ¬ (q ≡ [])
+        not_root over root =
+            taken (IsOver q) ⊥ (named lines)
+            (λ v among it. elim it.over [
+              | inl same ↦ it.not_root (same ∙ root)
+              | inr above ↦ no_end v.address above.0 above.1 (sym root ∙ above.2)
+            ])
+            (value_over q lines over)
+
+        held : list_any (holds q) (standing lines) ≡ true → HasContainerFor lines (edits.insert p text)
+        held over = (
+          q,
+          Index i,
+          own,
+          not_root over,
+          subst (HasContainerAt lines) (sym own) (array_held q i lines good.good.0 over (has_of_any _ (named lines) ((good.facts q an_array).0 array))),
+        )
+
+        outside : IsInNoValue lines q
+        outside = by (list_any (holds q) (standing lines)) refl
+          where
+            by : (b : Bool) → list_any (holds q) (standing lines) ≡ b → list_any (holds q) (standing lines) ≡ false
+            by false none_over = none_over
+            by true over = absurd (some_after profile (edits.insert p text) mid closed room none
+                (λ makes. no_holder (edits.insert p text) is none neither makes good.tree good.spelled (held over)))
+
     -- an element whose array is a line's value, or in one, is held
     remove_refused : (p : Address) → slice_get cs n ≡ Some (edits.remove p) → IsFault profile (edits.remove p) mid None
         → TakesLastElement (edits.remove p) mid → IsRefusedIn profile between (edits.remove p)
@@ -151,22 +199,24 @@ module _ (layout : Layout) (profile : Profile) (before : List ℕ) (cs : List Ch
             by true over = absurd (some_after profile (edits.remove p) mid closed tt none
                 (λ makes. no_holder (edits.remove p) is none neither makes good.tree good.spelled (held over)))
 
-  refused : (c : Change) → slice_get cs n ≡ Some c → IsNoInsert c → TellsWith layout profile before cs (refusal n c) → IsRefusedIn profile between c
-  refused (edits.insert p text) is not_insert told = absurd not_insert
-  refused (edits.rename p to) is not_insert told =
+  refused : (c : Change) → slice_get cs n ≡ Some c → HasRoom c mid → TellsWith layout profile before cs (refusal n c) → IsRefusedIn profile between c
+  refused (edits.insert p text) is room told =
+      let defined = here layout profile before cs n between mid so_far (edits.insert p text) is (OfDefined profile MayBeSpread) told.1 in
+      insert_refused told.2 p text is defined.0 room defined.1
+  refused (edits.rename p to) is room told =
       absurd (here layout profile before cs n between mid so_far (edits.rename p to) is (OfDefined profile MayBeSpread) told.1).1
-  refused (edits.set p text) is not_insert told =
+  refused (edits.set p text) is room told =
       let defined = here layout profile before cs n between mid so_far (edits.set p text) is (OfDefined profile MayBeSpread) told.1 in
       set_refused told.2 p text is defined.0
-  refused (edits.new_section p) is not_insert told =
+  refused (edits.new_section p) is room told =
       let defined = here layout profile before cs n between mid so_far (edits.new_section p) is (OfDefined profile MayBeSpread) told.1 in
       section_refused told.2 p is defined.0
-  refused (edits.new_element p) is not_insert told =
+  refused (edits.new_element p) is room told =
       let defined = here layout profile before cs n between mid so_far (edits.new_element p) is (OfDefined profile MayBeSpread) told.1 in
       element_refused told.2 p is defined.0
-  refused (edits.remove p) is not_insert told =
+  refused (edits.remove p) is room told =
       let defined = here layout profile before cs n between mid so_far (edits.remove p) is (OfDefined profile TakesLastElement) told.1 in
       remove_refused told.2 p is defined.0 defined.1
 
 pub only_refused_is_told : OnlyRefusedIsTold
-only_refused_is_told layout profile before cs n between mid so_far c is not_insert told = refused layout profile before cs n between mid so_far c is not_insert told
+only_refused_is_told layout profile before cs n between mid so_far c is room told = refused layout profile before cs n between mid so_far c is room told

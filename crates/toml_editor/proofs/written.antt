@@ -60,6 +60,7 @@ pub mod HeaderStood
 pub mod HeaderThere
 pub mod HeadersAlone
 pub mod HeadersRenamed
+pub mod HeldArrays
 pub mod HeldElements
 pub mod ImpliedHeaders
 pub mod ImpliedPlace

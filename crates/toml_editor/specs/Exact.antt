@@ -31,7 +31,7 @@ use Rattle.toml_layout.specs.declared.tree.Brackets.TheVariants.{One, Two}
 use Rattle.toml_layout.specs.OpenOutlines.{leaf_text, value as open_outline}
 use Rattle.toml_working.specs.AddingHeaders.{TreeAddsHeader}
 use Rattle.toml_working.specs.Headers.{innermost}
-use Rattle.toml_working.specs.HeldLines.{HoldsLines, TakesFromValue}
+use Rattle.toml_working.specs.HeldLines.{HoldsLines, PutsNoElement, TakesFromValue}
 use Rattle.toml_editor.specs.PlainTexts.{IsPlainOrHeld, IsPlainOn, IsRefusedIn}
 use Rattle.toml_working.specs.Putting.{TreeInserts, manner}
 use Rattle.toml_working.specs.InTables.{TreePutsIn}
@@ -104,6 +104,11 @@ abbrev pub WritesBelow : Profile → Read → Address → List ℕ → List (Str
 WritesBelow profile read p text steps old new = IsText text → (v : Value) → IsValueIn profile v text → (q : Address) (last : Step) → p ≡ q ++ last ∷ []
     → TreePutsIn q p steps (value_outline v) read old new
 
+-- of one of an element whose array is no line's value, and in none: it is not made
+abbrev pub WritesNoElement : Profile → Read → Address → List ℕ → Tree → Bool → Type 0
+WritesNoElement profile read p text old done = IsText text → (v : Value) → IsValueIn profile v text → (q : Address) (last : Step) → p ≡ q ++ last ∷ []
+    → PutsNoElement q p read old done
+
 -- the header line of what is to stand at the address, the steps of which are spelled so: whether it is put in
 abbrev pub WritesHeader : Brackets → Read → Address → List (String Global) → Tree → Tree → Bool → Type 0
 WritesHeader brackets read p steps old new done = (q : Address) (last : Step) → p ≡ q ++ last ∷ []
@@ -119,12 +124,13 @@ pub record WritesRename (read : Read) (p : Address) (to : List ℕ) (old new : T
 -- an `insert` of a name in a table that is no value and lies in none puts its line in, a `remove` takes out the line of a value, or makes it
 -- the empty table right above where that would go with it, a `rename` gives lines the new name, a `section` and an `element` put their header
 -- line in. Where an array or an inline table in the value of a line holds it, an `insert` and a `remove` change that. A `remove` of an element of
--- an array of tables tells whether it is made.
+-- an array of tables tells whether it is made, and an `insert` of one is not.
 abbrev pub WritesEdit : Profile → Read → Change → Tree → Tree → Bool → Type 0
 WritesEdit profile read (set p text) old new done = NoneIsGone old.elements → KeepsRest old new × WritesSet profile read p text old new done
 WritesEdit profile read (insert p text) old new done = NoneIsGone old.elements
     → (steps : List (String Global)) × KeepsRest old new × AreSteps p steps × WritesInsert profile read p text steps old new
     × WritesInside profile read p text steps old new done × WritesBelow profile read p text steps old new
+    × WritesNoElement profile read p text old done
 WritesEdit profile read (remove p) old new done = NoneIsGone old.elements
     → RemovesLines p read old new × TakesFromValue p read old new done × TakesElement p read old done
 WritesEdit profile read (rename p to) old new done = NoneIsGone old.elements → WritesRename read p to old new

@@ -20,15 +20,16 @@ use Rattle.toml_working.specs.Heading.{header_line}
 use Rattle.toml_working.specs.Inserting.{new_line, line_put}
 use Rattle.toml_working.specs.InsertingInTables.{insert_in}
 use Rattle.toml_working.specs.Manners.{Manner}
-use Rattle.toml_working.specs.Premises.{HasTable}
+use Rattle.toml_working.specs.Premises.{HasImplied, HasSection, HasTable}
 use Rattle.toml_layout.specs.declared.layout.Layout.TheVariants as layouts
 use Rattle.toml_layout.specs.Spacings.{Spacing, plain_spacing}
 
--- Law: the new lines name what the old ones did, some tables at the parent or above it once more, and the name's value in the parent.
+-- Law: the new lines name what the old ones did, some tables at the parent or above it once more, and the name's value in the parent. In the
+-- root, and in a table that has a header, no table is named once more.
 abbrev pub InsertNames : Type 0
 InsertNames = (q : Address) (name : List ℕ) (v : Value) (manner : Manner) (lines : List Line) → HasTable lines q
     → (tables mid : List Named) × AreTablesAgain q (named_plain lines) tables × IsPut (named_plain lines) tables mid
-    × IsPut mid (value_block (child q name) v) (named_plain (insert_in q name v manner lines))
+    × IsPut mid (value_block (child q name) v) (named_plain (insert_in q name v manner lines)) × (HasSection lines q → tables ≡ [])
 
 -- Laws: the table rules are kept, where the table has no such name and the value keeps them;
 abbrev pub InsertRules : Type 0
@@ -59,14 +60,14 @@ InsertOfProfile = (profile : Profile) (q : Address) (name : List ℕ) (v : Value
     → AreLinesOfProfile profile lines → IsValueOfProfile profile v → AreLinesOfProfile profile (insert_in q name v manner lines)
 
 -- A new line with the value is put in as the first line of the root; behind another line, which stays but for a last line's newline, by a key
--- that has the names behind the address of a section; or behind a new header of the table, both before other lines. In layout `Plain` the line has
--- a space on each side of its `=`, and neither line has one before it.
+-- that has the names behind the address of a section; or, where longer headers alone imply the table, behind a new header of it, both before
+-- other lines. In layout `Plain` the line has a space on each side of its `=`, and neither line has one before it.
 pub data IsInsertedInto (q : Address) (name : List ℕ) (v : Value) (manner : Manner) (old new : List Line) : Type 0 where
   First : q ≡ [] → new ≡ new_line plain_spacing (name ∷ []) v manner.newline ∷ old → IsInsertedInto q name v manner old new
   Behind : (section : Address) → (key : Key) → ¬ (key ≡ []) → child q name ≡ below section key → (front : List Line) → (l : Line) → (back : List Line)
       → (s : Spacing) → (manner.layout ≡ layouts.Plain → s ≡ plain_spacing) → old ≡ front ++ l ∷ back → new ≡ front ++ line_put s key v manner l back
       → IsInsertedInto q name v manner old new
-  Ahead : ¬ (q ≡ []) → (front back : List Line) → (ws : List ℕ) → (s : Spacing) → (manner.layout ≡ layouts.Plain → (ws ≡ []) × (s ≡ plain_spacing))
+  Ahead : HasImplied old q → ¬ (q ≡ []) → (front back : List Line) → (ws : List ℕ) → (s : Spacing) → (manner.layout ≡ layouts.Plain → (ws ≡ []) × (s ≡ plain_spacing))
       → old ≡ front ++ back → new ≡ front ++ header_line One q ws manner.newline ∷ new_line s (name ∷ []) v manner.newline ∷ back → IsInsertedInto q name v manner old new
 
 -- Law: so it is after an `insert`; all other lines stay what they are.

@@ -6,8 +6,9 @@ use Rattle.toml_names.specs.mentions.Mentions.{named}
 use Rattle.toml_names.specs.model.Data.{IsDataOf, Kinds}
 use Rattle.toml_names.specs.model.Documents.{IsDocumentIn}
 use Rattle.toml_edits.specs.declared.fault.EditFault.{EditFault}
-use Rattle.toml_edits.specs.Edits.{Change, insert, remove}
+use Rattle.toml_edits.specs.Edits.{Change, remove}
 use Rattle.toml_edits.specs.Faults.{IsFault}
+use Rattle.toml_edits.specs.Laws.{HasRoom}
 use Rattle.toml_edits.specs.Lists.{Lead}
 use Rattle.toml_editor.specs.CertifiedLists.{ArePlain}
 use Rattle.toml_editor.specs.Edited.{IsEditedWith, TellsWith}
@@ -43,11 +44,6 @@ abbrev pub refusal : ℕ → Change → EditorFault
 refusal n (remove p) = LastElement n
 refusal n _ = Spread n
 
--- the edit is no `insert`
-abbrev pub IsNoInsert : Change → Type 0
-IsNoInsert (insert p value) = ⊥
-IsNoInsert _ = Unit {0}
-
 -- Laws, want of memory aside. Where all edits are defined on the data so far and plain, the answer is the text that they write, if it is
 -- within the limit;
 abbrev pub PlainIsAnswered : Type 0
@@ -69,16 +65,16 @@ FirstFaultIsAnswered = (layout : Layout) (profile : Profile) (before : List ℕ)
     → IsFault profile c mid (Some fault) → (answer : Result (List ℕ × List (ℕ × ℕ)) EditorFault) → IsAnswer layout profile before cs answer
     → IsFaultOrMemory (Edit n fault) answer
 
--- and where it has none, but on the text so far it is refused, as `IsRefusedIn` has it, the answer is, with its number: of a `set`, a
--- `section` and an `element` that its place is spread, of a `remove` that it takes a last element.
+-- and where it has none, but on the text so far it is refused, as `IsRefusedIn` has it, the answer is, with its number: of a `set`, an
+-- `insert`, a `section` and an `element` that its place is spread, of a `remove` that it takes a last element.
 abbrev pub FirstRefusedIsAnswered : Type 0
 FirstRefusedIsAnswered = (layout : Layout) (profile : Profile) (before : List ℕ) (cs : List Change) (n : ℕ) (between : List ℕ) (mid : Kinds)
     → PlainSoFar layout profile before cs n between mid → (c : Change) → slice_get cs n ≡ Some c → IsFault profile c mid None
     → IsRefusedIn profile between c → (answer : Result (List ℕ × List (ℕ × ℕ)) EditorFault) → IsAnswer layout profile before cs answer
     → IsFaultOrMemory (refusal n c) answer
 
--- Where the edits before one are so, and it is no `insert`, it is told as refused only if it is so refused.
+-- Where the edits before one are so, and there is room for the indices that it raises, it is told as refused only if it is so refused.
 abbrev pub OnlyRefusedIsTold : Type 0
 OnlyRefusedIsTold = (layout : Layout) (profile : Profile) (before : List ℕ) (cs : List Change) (n : ℕ) (between : List ℕ) (mid : Kinds)
-    → PlainSoFar layout profile before cs n between mid → (c : Change) → slice_get cs n ≡ Some c → IsNoInsert c
+    → PlainSoFar layout profile before cs n between mid → (c : Change) → slice_get cs n ≡ Some c → HasRoom c mid
     → TellsWith layout profile before cs (refusal n c) → IsRefusedIn profile between c

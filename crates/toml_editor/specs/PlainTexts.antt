@@ -35,10 +35,12 @@ abbrev pub IsPlainOn : Profile → List ℕ → Change → Type 0
 IsPlainOn profile text c = (d : Doc) → SpellsIn profile d text → IsPlain d.lines c
 
 -- The text has no one place for the edit, or the edit takes a last element. A `set`: no single value stands at its address, as where headers,
--- dotted keys or lines of a table make what is there. A `section` and an `element`: a line's value stands above the address. A `remove` of
--- the only element of an array of tables: no line's value stands at the array or above it, and the lines name no second element.
+-- dotted keys or lines of a table make what is there. An `insert` at an index: no line's value stands at the array or above it. A `section`
+-- and an `element`: a line's value stands above the address. A `remove` of the only element of an array of tables: no line's value stands at
+-- the array or above it, and the lines name no second element.
 abbrev pub IsRefusedIn : Profile → List ℕ → Change → Type 0
 IsRefusedIn profile text (set p value) = (d : Doc) → SpellsIn profile d text → ¬ HasValue d.lines p
+IsRefusedIn profile text (insert p value) = (q : Address) × (i : ℕ) × (p ≡ element q i) × ((d : Doc) → SpellsIn profile d text → IsInNoValue d.lines q)
 IsRefusedIn profile text (new_section p) = (q : Address) × (s : Step) × (p ≡ q ++ s ∷ []) × ((d : Doc) → SpellsIn profile d text → ¬ IsInNoValue d.lines q)
 IsRefusedIn profile text (new_element p) = (q : Address) × (s : Step) × (p ≡ q ++ s ∷ []) × ((d : Doc) → SpellsIn profile d text → ¬ IsInNoValue d.lines q)
 IsRefusedIn profile text (remove p) = (q : Address) × (p ≡ element q 0) × ((d : Doc) → SpellsIn profile d text

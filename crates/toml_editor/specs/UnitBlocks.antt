@@ -23,7 +23,7 @@ use Rattle.toml_working.specs.Removing.{empty_table, remove_lines}
 use Rattle.toml_layout.specs.Spacings.{Spacing, plain_spacing}
 use Rattle.toml_editor.specs.RemoveLaws.{LeavesTable, TakesTable}
 use Rattle.toml_layout.specs.Holders.{parent_of}
-use Rattle.toml_working.specs.Premises.{HasTable}
+use Rattle.toml_working.specs.Premises.{HasImplied, HasTable}
 
 -- a keyval line: itself, what lies in its value, and its comment; to the table in which it stands lead so many steps
 abbrev pub pair_line_units : Piece → Address → ℕ → Value → Option Piece → List TextUnit
@@ -79,20 +79,21 @@ IsHeaderUnitPut brackets p ws old new =
     let line = header_line_units (fresh (header_text brackets ws p)) p in
     IsBlockPut old line new ⊎ IsBlockPut old (line ++ line_of_nothing ∷ []) new
 
--- The units of the new line of an `insert`, by a key that has the names behind the address of a section; or those of a new header line, and of the line behind it. In layout
--- `Plain` the whitespace is that of ` = `.
-pub data AreUnitsInserted (q : Address) (name : List ℕ) (v : Value) (layout : Layout) (old new : List TextUnit) : Type 0 where
+-- The units of lines, with those of the new line of an `insert`, by a key that has the names behind the address of a section; or, where longer
+-- headers alone imply the table, those of its new header line, and of the line behind it. In layout `Plain` the whitespace is that of ` = `.
+pub data AreUnitsInserted (q : Address) (name : List ℕ) (v : Value) (layout : Layout) (lines : List Line) (new : List TextUnit) : Type 0 where
   OneLine : (section : Address) → (key : Key) → ¬ (key ≡ []) → child q name ≡ below section key → (s : Spacing) → (layout ≡ layouts.Plain → s ≡ plain_spacing)
-      → IsBlockPut old (pair_line_units (fresh (pair_text s key v)) (child q name) (length section) v None) new → AreUnitsInserted q name v layout old new
-  Both : (ws : List ℕ) → (s : Spacing) → (layout ≡ layouts.Plain → (ws ≡ []) × (s ≡ plain_spacing))
-      → IsBlockPut old
+      → IsBlockPut (units lines) (pair_line_units (fresh (pair_text s key v)) (child q name) (length section) v None) new
+      → AreUnitsInserted q name v layout lines new
+  Both : HasImplied lines q → (ws : List ℕ) → (s : Spacing) → (layout ≡ layouts.Plain → (ws ≡ []) × (s ≡ plain_spacing))
+      → IsBlockPut (units lines)
       (header_line_units (fresh (header_text One ws q)) q ++ pair_line_units (fresh (pair_text s (name ∷ []) v)) (child q name) (length q) v None) new
-      → AreUnitsInserted q name v layout old new
+      → AreUnitsInserted q name v layout lines new
 
 -- Law: these are the units that come with it.
 abbrev pub InsertUnits : Type 0
 InsertUnits = (q : Address) (name : List ℕ) (v : Value) (manner : Manner) (lines : List Line) → HasTable lines q
-    → AreUnitsInserted q name v manner.layout (units lines) (units (insert_in q name v manner lines))
+    → AreUnitsInserted q name v manner.layout lines (units (insert_in q name v manner lines))
 
 -- Laws: the units of the new lines are those of the old ones without those of the line, where the table right above the value stays;
 abbrev pub RemoveUnits : Type 0

@@ -246,9 +246,10 @@ pub fn standing_removed()
 /// What the editor answers in a layout, want of memory aside. Where all edits of a list are defined on the data so far and plain, it is the
 /// text that they write, if it is within the limit of a text, and else that it is too long. Where the edits before one are so,
 /// and it is not defined, it is that edit's fault with its number; where it is defined, but a `set` of an address where the text so
-/// far has no one value, or a `section` or an `element` above which a line's value stands, it is that its place is spread, with its
-/// number; where it is a `remove` of the only element of an array of tables, it is that it takes a last element, with its number.
-/// Where the edits before one are so, and it is no `insert`, these two are told of it in no other case.
+/// far has no one value, an `insert` into an array of tables, or a `section` or an `element` above which a line's value stands, it is
+/// that its place is spread, with its number; where it is a `remove` of the only element of an array of tables, it is that it takes a
+/// last element, with its number. Where the edits before one are so, these two are told of it in no other case; of an `insert` this
+/// is said where no index in the data is so great that it could not rise.
 pub fn plain_answers()
     ensures plain { PlainIsAnswered }
     ensures long { LongIsAnswered }

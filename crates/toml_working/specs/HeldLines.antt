@@ -1,5 +1,5 @@
 -- Something is put into the value of a line, or taken out of one, by what then stands on the lines.
-use Rattle.std.specs.Prelude.{◌≡◌, ◌&&◌, ◌∷◌, ◌++◌, ℕ, Bool, true, false, List, [], drop, map, length, string_bytes}
+use Rattle.std.specs.Prelude.{◌≡◌, ◌&&◌, ◌∷◌, ◌++◌, ℕ, Bool, true, false, List, [], drop, is_some, map, length, string_bytes}
 use Rattle.std.specs.Bool.{nat_lt}
 use Rattle.std.specs.List.{list_any}
 use Rattle.std.specs.declared.alloc.Global.{Global}
@@ -15,6 +15,7 @@ use Rattle.toml_layout.specs.OpenOutlines.{value}
 use Rattle.toml_layout.specs.Outlines.{ExprOutline, Header, Nothing, Pair, ValueOutline}
 use Rattle.toml_working.specs.declared.lines.Slot.{Slot}
 use Rattle.toml_working.specs.declared.working.Tree.{Tree}
+use Rattle.toml_working.specs.Headers.{element_of}
 use Rattle.toml_working.specs.RemoveStanding.{is_pair}
 use Rattle.toml_working.specs.Seeing.{steps_to}
 use Rattle.toml_working.specs.Standing.{Standing, Read, AreOrdered, has, holds, set_standing}
@@ -51,6 +52,16 @@ PutsInValue parent at spelled new read old now done =
     (last : Step) → at ≡ parent ++ last ∷ [] → ¬ (parent ≡ [])
     → (ss : List Standing) → Stands (text_of old.texts.source) read old.slots.items ss → AreOrdered ss → list_any (holds parent) ss ≡ true
     → HoldsLines at (PutsHeld old.texts.layout spelled new) (text_of old.texts.source) read old.slots.items now.slots.items ss done
+
+-- what is to stand at the address is not made where that is an element
+abbrev pub RefusesElement : Address → Bool → Type 0
+RefusesElement at done = is_some (element_of at) ≡ true → done ≡ false
+
+-- so it is of an `insert` whose parent is no line's value, and in none
+abbrev pub PutsNoElement : Address → Address → Read → Tree → Bool → Type 0
+PutsNoElement parent at read old done =
+    (ss : List Standing) → Stands (text_of old.texts.source) read old.slots.items ss → AreOrdered ss → list_any (holds parent) ss ≡ false
+    → RefusesElement at done
 
 -- a `remove` at an address in the value of a line
 abbrev pub TakesFromValue : Address → Read → Tree → Tree → Bool → Type 0

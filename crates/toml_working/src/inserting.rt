@@ -1,10 +1,11 @@
 //! `insert`: an element of an array, a pair of an inline table, or a line with a key and a value.
-ghost use Rattle.std.specs.Prelude.{◌≡◌, ◌++◌, ◌<◌, ◌∷◌, IfOk, OnOk, drop, false, length, take, true};
+ghost use Rattle.std.specs.Prelude.{◌≡◌, ◌++◌, ◌<◌, ◌∷◌, IfOk, OnOk, drop, false, is_some, length, take, true};
 ghost use Rattle.toml_layout.specs.KnownLines.{lines_known};
 ghost use Rattle.toml_layout.specs.OpenOutlines.{leaf_text, value};
 ghost use Rattle.toml_working.specs.Putting.{EndsOne, EndsSlot, EndsSlots, IsElsewhere, IsPairLine};
 ghost use Rattle.toml_working.specs.Putting.{PutsSlot, PutsSlots, PutsThere, TreeEndsBefore, TreeInserts, TreeInsertsFirst, TreePutsBehind};
-ghost use Rattle.toml_working.specs.HeldLines.{PutsInValue};
+ghost use Rattle.toml_working.specs.Headers.{element_of};
+ghost use Rattle.toml_working.specs.HeldLines.{PutsInValue, PutsNoElement, RefusesElement};
 ghost use Rattle.toml_working.specs.DottedTables.{TreePutsDotted};
 ghost use Rattle.toml_working.specs.ImpliedTables.{TreePutsAhead};
 ghost use Rattle.toml_working.specs.InTables.{TreePutsIn};
@@ -44,6 +45,7 @@ impl<'x> Tree<'x> {
         ensures value { let read = read_of before.entry in
             IfOk result (PutsInValue parent.now at.now spelled.now new.entry read self.old self.new) }
         ensures below { OnOk result (TreePutsIn parent.now at.now spelled.now (value new.entry) (read_of before.entry) self.old self.new) }
+        ensures element { IfOk result (PutsNoElement parent.now at.now (read_of before.entry) self.old) }
     {
         let insertion = Insertion { at, spelled, new };
         if is_at_root(at) {
@@ -66,6 +68,7 @@ impl<'x> Tree<'x> {
             IfOk result (PutsInValue parent.now it.at.now it.spelled.now it.new (read_of before.entry) self.old self.new) }
         ensures below { let it = insertion.entry in
             OnOk result (TreePutsIn parent.now it.at.now it.spelled.now (value it.new) (read_of before.entry) self.old self.new) }
+        ensures element { IfOk result (PutsNoElement parent.now insertion.entry.at.now (read_of before.entry) self.old) }
     {
         match self.value_line(before, named, parent) {
             Some(place) => {
@@ -91,13 +94,14 @@ impl<'x> Tree<'x> {
             OnOk result (TreePutsDotted parent.now it.at.now it.spelled.now (value it.new) (read_of before.entry) self.old self.new) }
         ensures implied { let it = insertion.entry in
             OnOk result (TreePutsAhead parent.now it.at.now it.spelled.now (value it.new) (read_of before.entry) self.old self.new) }
+        ensures element { IfOk result (RefusesElement insertion.entry.at.now) }
     {
         let Some((last, above)) = insertion.at.steps().split_last() else {
             return Ok(false);
         };
-        if matches!(last, Step::Index(_)) {
+        let Step::Name(_) = last else {
             return Ok(false);
-        }
+        };
         match self.table_place(before, named, parent) {
             Some(TablePlace::Header(header)) => {
                 let last = self.last_of_section(before, header.next(), above);
@@ -235,6 +239,7 @@ impl<'x> Tree<'x> {
 fn is_at_root(at: &Address) -> bool
     ensures no { result ≡ false → IsElsewhere at.now }
     ensures yes { result ≡ true → length at.now ≡ 1 }
+    ensures name { result ≡ true → is_some (element_of at.now) ≡ false }
 {
     matches!(at.steps(), [Step::Name(_)])
 }

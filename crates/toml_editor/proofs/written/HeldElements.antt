@@ -1,5 +1,5 @@
 -- What holds an element that stands in the value of a line.
-use Rattle.std.proofs.Common.{◌≡◌, ◌⊎◌, inl, inr, ℕ, zero, suc, ◌+◌, Bool, true, false, ◌&&◌, cond, Some, None, List, [], ◌∷◌, ◌++◌, map, length, drop, refl, sym, ap, ap₂, ◌∙◌, subst, true≢false, append_assoc, append-nil, arith}
+use Rattle.std.proofs.Common.{◌≡◌, ◌⊎◌, inl, inr, ℕ, zero, suc, ◌+◌, All, Bool, true, false, ◌&&◌, cond, Some, None, List, [], ◌∷◌, ◌++◌, map, length, drop, refl, sym, ap, ap₂, ◌∙◌, subst, true≢false, append_assoc, append-nil, arith}
 use Rattle.std.proofs.lemmas.Bool.{and_parts, or_cases}
 use Rattle.std.proofs.lemmas.List.{append_cancel_left}
 use Rattle.std.specs.List.{list_any}
@@ -42,11 +42,11 @@ no_steps (Token text) = refl
 no_steps (Listed opening es) = refl
 no_steps (Braced opening es) = refl
 
-drop_front : (at rest : Address) → drop (length at) (at ++ rest) ≡ rest
+pub drop_front : (at rest : Address) → drop (length at) (at ++ rest) ≡ rest
 drop_front [] rest = refl
 drop_front (s ∷ at) rest = drop_front at rest
 
-drop_names : (k : Key) (rest : Address) → drop (length k) (map Name k ++ rest) ≡ rest
+pub drop_names : (k : Key) (rest : Address) → drop (length k) (map Name k ++ rest) ≡ rest
 drop_names [] rest = refl
 drop_names (n ∷ k) rest = drop_names k rest
 
@@ -64,6 +64,21 @@ one_begins (m ∷ k) (n ∷ l) (s ∷ steps) h j =
       | inl is ↦ inl (ap₂ (λ a b. a && b) one is)
       | inr is ↦ inr (ap₂ (λ a b. a && b) two is)
     ]
+
+-- of keys that are apart only one leads there
+pub led_by_one : (k : Key) (ks : List Key) (steps : Address) → All (λ l. (begins_key k l ≡ false) × (begins_key l k ≡ false)) ks
+    → Has (λ l. leads l steps ≡ true) ks → leads k steps ≡ false
+led_by_one k ks steps apart led = by (leads k steps) refl
+  where
+    by : (b : Bool) → leads k steps ≡ b → leads k steps ≡ false
+    by false is = is
+    by true is =
+        absurd (from_has (λ l. (begins_key k l ≡ false) × (begins_key l k ≡ false)) (λ l. leads l steps ≡ true) ⊥
+        (λ l two there. elim (one_begins k l steps is there) [
+          | inl one ↦ true≢false (sym one ∙ two.0)
+          | inr one ↦ true≢false (sym one ∙ two.1)
+        ])
+        ks (each_of_all _ ks apart) led)
 
 -- ---- in the outline of a value
 
@@ -143,7 +158,7 @@ module _ (q : Address) (i : ℕ) where
         elim (or_cases (has_outline p to v) (has_braced p at es) there) [
           | inr later ↦
               let (some, holds, led) = braced_held es at steps keys.1 apart.1 way later in
-              (some, ap (λ b. cond b (has_holder v (drop (length k) steps)) (pair_holds es steps)) (not_led led) ∙ holds, inr led)
+              (some, ap (λ b. cond b (has_holder v (drop (length k) steps)) (pair_holds es steps)) (led_by_one k (keys_of es) (parent_of steps) keys.0 led) ∙ holds, inr led)
           | inl here ↦ elim (or_cases (same_address to p) (has_within p to v) here) [
             | inl same ↦ absurd (no_key at _ _ same)
             | inr within ↦
@@ -164,20 +179,6 @@ module _ (q : Address) (i : ℕ) where
 
         to : Address
         to = below at k
-
-        -- the key of another pair does not lead there
-        not_led : Has (λ l. leads l (parent_of steps) ≡ true) (keys_of es) → leads k (parent_of steps) ≡ false
-        not_led led = by (leads k (parent_of steps)) refl
-          where
-            by : (b : Bool) → leads k (parent_of steps) ≡ b → leads k (parent_of steps) ≡ false
-            by false is = is
-            by true is =
-                absurd (from_has (λ l. (begins_key k l ≡ false) × (begins_key l k ≡ false)) (λ l. leads l (parent_of steps) ≡ true) ⊥
-                (λ l two there. elim (one_begins k l (parent_of steps) is there) [
-                  | inl one ↦ true≢false (sym one ∙ two.0)
-                  | inr one ↦ true≢false (sym one ∙ two.1)
-                ])
-                (keys_of es) (each_of_all _ (keys_of es) keys.0) led)
 
   -- ---- on lines
 

@@ -38,7 +38,7 @@ module _ (v : Value) (manner : Manner) (newline : IsNewline manner.newline) (for
       subst AreLines (sym first) (line_before (new_line plain_spacing (name ∷ []) v manner.newline) ls (new_formed name [] plain_spacing plain_spaced) newline is)
   all_formed q name ls new (inl (inr put)) is =
       subst AreLines (sym put.is) (at_formed put.first put.rest put.spacing (put.spaced is) put.front put.back put.line (subst AreLines put.was is))
-  all_formed q name ls new (inr put) is =
+  all_formed q name ls new (inr (implied, put)) is =
       subst AreLines (sym (behind_header q name v manner ls new put))
       (at_formed name [] put.spacing (put.spaced is).1 put.front put.back (header_line One q put.ws manner.newline)
       (header_forms One q manner.newline ls _ (header_put q name v manner ls new put) is newline))

@@ -1,5 +1,5 @@
 -- What is kept by an `insert`: the table rules, the bound on addresses, the data.
-use Rattle.std.proofs.Common.{◌≡◌, ◌≤◌, ◌+◌, ℕ, List, inl, inr, Some, [], ◌∷◌, ◌++◌, All, length, length-append, sym, ap, ◌∙◌, subst, append-nil, arith}
+use Rattle.std.proofs.Common.{◌≡◌, ◌≤◌, ◌+◌, ℕ, List, inl, inr, Some, [], ◌∷◌, ◌++◌, All, length, length-append, sym, ap, ◌∙◌, subst, append-nil, arith, refl}
 use Rattle.toml_tree.specs.Spells.{EachIs}
 use Rattle.toml_tree.specs.Profiles.{IsValueIn}
 use Rattle.toml_tree.specs.Tree.{Value, Line}
@@ -15,18 +15,21 @@ use Rattle.toml_names.specs.mentions.Clear.{IsClear}
 use Rattle.toml_names.proofs.Proved.{inside_is_below, not_named_is_clear, more_keep_rules, value_keeps_rules}
 use Rattle.toml_names.specs.mentions.Rules.{IsShort, KeepsRules, max_steps}
 use Rattle.toml_working.specs.InsertingInTables.{insert_in}
+use Rattle.toml_working.specs.Manners.{Manner}
+use Rattle.toml_working.specs.Premises.{HasSection, HasTable}
 use Rattle.toml_edits.specs.After.{IsAfter}
 use Rattle.toml_edits.specs.Carry.{carry, inserting}
 use Rattle.toml_edits.specs.Edits.{insert}
 use Rattle.toml_edits.specs.ValueTexts.{IsGoodValue}
 use Rattle.toml_edits.proofs.Proved.{parted_at_last}
 use Rattle.std.proofs.lemmas.Option.{same_Some}
-use Rattle.toml_editor.specs.Blocks.{value_block, named_plain}
+use Rattle.toml_editor.specs.Blocks.{AreTablesAgain, IsPut, value_block, named_plain}
 use Rattle.toml_editor.specs.InsertLaws.{InsertNames, InsertRules, InsertShort, InsertData}
 use Rattle.toml_editor.proofs.written.BlockFacts.{each_put, has_old, has_block, has_new}
 use Rattle.toml_editor.proofs.written.Clear.{IsUnder}
 use Rattle.toml_editor.proofs.Each.{each_weaker}
-use Rattle.toml_editor.proofs.written.InsertedNames.{insert_named}
+use Rattle.toml_editor.proofs.written.InsertedNames.{insert_named, section_put}
+use Rattle.toml_editor.proofs.written.InsertedTables.{no_section}
 use Rattle.toml_editor.proofs.written.Pairwise.{each_of_all, Has, has_of_any, any_of_has, from_has, has_weaker}
 use Rattle.toml_editor.proofs.written.SetKept.{F, block, clear_under, block_short, in_block, of_block}
 use Rattle.toml_editor.proofs.written.TablesAgain.{AreNamedFirst}
@@ -140,8 +143,34 @@ module _ (q : Address) (name : List ℕ) (v : Value) (lines new : List Line) (pu
 
 -- ---- of an `insert`
 
+-- what the law of names says of one
+abbrev NamesThere : Address → List ℕ → Value → Manner → List Line → Type 0
+NamesThere q name v manner lines =
+    (tables mid : List Named) × AreTablesAgain q (named_plain lines) tables × IsPut (named_plain lines) tables mid
+    × IsPut mid (value_block (child q name) v) (named_plain (insert_in q name v manner lines)) × (HasSection lines q → tables ≡ [])
+
+of_section : (q : Address) (name : List ℕ) (v : Value) (manner : Manner) (lines : List Line) → HasSection lines q → NamesThere q name v manner lines
+of_section q name v manner lines has = (
+  [],
+  named_plain lines,
+  tt,
+  record { front = []; back = named_plain lines; before = refl; after = refl },
+  section_put q name v manner lines has,
+  λ again. refl,
+)
+
+of_others : (q : Address) (name : List ℕ) (v : Value) (manner : Manner) (lines : List Line) → HasTable lines q → ¬ HasSection lines q
+    → NamesThere q name v manner lines
+of_others q name v manner lines there unheaded =
+    let put = insert_named q name v manner lines there in (put.tables, put.mid, put.again, put.first, put.second, λ has. absurd (unheaded has))
+
 pub insert_names : InsertNames
-insert_names q name v manner lines there = let put = insert_named q name v manner lines there in (put.tables, put.mid, put.again, put.first, put.second)
+insert_names [] name v manner lines there = of_section [] name v manner lines (inl refl)
+insert_names (s ∷ q) name v manner lines (inl has) = of_section (s ∷ q) name v manner lines has
+insert_names (s ∷ q) name v manner lines (inr (inl dotted)) =
+    of_others (s ∷ q) name v manner lines (inr (inl dotted)) (no_section (s ∷ q) lines (λ is. cc) dotted.no_header)
+insert_names (s ∷ q) name v manner lines (inr (inr implied)) =
+    of_others (s ∷ q) name v manner lines (inr (inr implied)) (no_section (s ∷ q) lines (λ is. cc) implied.no_header)
 
 pub insert_rules : InsertRules
 insert_rules q name v manner lines there = named_rules q name v lines (insert_in q name v manner lines) (insert_named q name v manner lines there)

@@ -20,6 +20,7 @@ use Rattle.toml_working.specs.FirstKeys.{spacing_after}
 use Rattle.toml_working.specs.Inserting.{line_put, new_line, spacing_behind, spacing_of}
 use Rattle.toml_working.specs.InsertingInTables.{insert_in}
 use Rattle.toml_working.specs.Manners.{Manner}
+use Rattle.toml_working.specs.Premises.{HasSection}
 use Rattle.toml_working.specs.Seeing.{is_dotted}
 use Rattle.toml_working.specs.Standing.{line_stands, standing}
 use Rattle.toml_editor.specs.Blocks.{named_plain}
@@ -63,6 +64,7 @@ module _ (q : Address) (name : List ℕ) (v : Value) (manner : Manner) where
     pub spaced : AreLines old → IsSpacing spacing
     pub plain : manner.layout ≡ layouts.Plain → spacing ≡ plain_spacing
     pub full : IsFull line.expr
+    pub own : HasSection old q → rest ≡ []
 
   -- or as the first line of the root
   abbrev pub IsPlace : List Line → List Line → Type 0
@@ -96,6 +98,7 @@ root_place name v manner lines = elim (insert_place name v manner lines) [
     spaced = λ forms. behind_spaced manner.layout found.front found.back found.line (subst AreLines found.before forms);
     plain = λ is. ap (λ x. laid_out x (spacing_of found.line.expr)) is;
     full = found.full;
+    own = λ has. refl;
   })
 ]
 
@@ -121,6 +124,7 @@ header_place q name v manner lines new put = record {
       ∙ ap (λ x. laid_out x (spacing_after (standing put.front) (line_stands (named put.front) put.line).base (line_stands (named put.front) put.line).address
       (line_stands (named put.front) put.line).outline)) is;
   full = below_full q name v manner lines new put;
+  own = λ has. refl;
 }
 
 -- ---- in a table that dotted keys make
@@ -253,8 +257,8 @@ module _ (q : Address) (name : List ℕ) (v : Value) (manner : Manner) (lines ne
           (again_among xs passed ((others ++ value) ++ behind_it) (fronts_dotted at (outer.0 ++ name ∷ []))
           (each_append IsUnpassed (others ++ value) behind_it (each_back IsUnpassed passed (others ++ value) parts) (unpassed_lines put.mid _ put.headless)))
 
-  pub dotted_place : (first : List ℕ) (rest : Key) → put.key ≡ first ∷ rest → IsPutAt q name v manner lines new
-  dotted_place first rest key_is = record {
+  pub dotted_place : (first : List ℕ) (rest : Key) → put.key ≡ first ∷ rest → ¬ HasSection lines q → IsPutAt q name v manner lines new
+  dotted_place first rest key_is unheaded = record {
     section_at = put.section_at;
     first = first;
     rest = rest;
@@ -270,4 +274,5 @@ module _ (q : Address) (name : List ℕ) (v : Value) (manner : Manner) (lines ne
     spaced = λ forms. behind_spaced manner.layout put.front put.back put.line (subst AreLines put.was forms);
     plain = λ is. ap (λ x. laid_out x (spacing_of put.line.expr)) is;
     full = keyed_full put.line.expr put.keyed;
+    own = λ has. absurd (unheaded has);
   }

@@ -77,6 +77,13 @@ module _ (q : Address) (i : ℕ) where
         from_lone ls (xs ++ new) (n + 1) values
         (each_append IsLoneThere xs new all (by_lone xs n l.expr (each_from _ ls (xs ++ new) (n + 1) values)))
 
+-- what a mention over an address says: a value stands there
+pub value_there : (q : Address) (lines : List Line) (v : Named) → Has (λ y. y ≡ v) (named lines) → IsOver q v → HasValue lines v.address
+value_there q lines v among over =
+    any_of_has _ (named lines)
+    (has_weaker (λ y. y ≡ v) (λ m. (m.address ≡ v.address) × (is_lone m.role ≡ true))
+    (λ y is. (ap (λ m. m.address) is, ap (λ m. is_lone m.role) is ∙ ap is_lone over.valued)) (named lines) among)
+
 -- Where a line's value stands at the array or above it, what is named at the element is a value.
 pub lone_element : (q : Address) (i : ℕ) (lines : List Line) → KeepsRules (named lines) → list_any (holds q) (standing lines) ≡ true
     → Has (λ m. m.address ≡ element q i) (named lines) → HasValue lines (element q i)
@@ -84,7 +91,7 @@ lone_element q i lines keeps held there =
     taken (IsOver q) (HasValue lines (element q i)) (named lines)
     (λ v among over. any_of_has _ (named lines)
     (has_each (IsLoneThere q i) (λ m. m.address ≡ element q i) (λ m. (m.address ≡ element q i) × (is_lone m.role ≡ true)) (λ m lone at. (at, lone at)) (named lines)
-    (from_lone q i v.address over.not_root (above v over) lines (root ∷ []) 0 (values_at v.address lines (has_value v among over) keeps) ((λ is. refl), tt)) there))
+    (from_lone q i v.address over.not_root (above v over) lines (root ∷ []) 0 (values_at v.address lines (value_there q lines v among over) keeps) ((λ is. refl), tt)) there))
     (value_over q lines held)
   where
     above : (v : Named) → IsOver q v → IsAbove v.address (element q i)
@@ -92,9 +99,3 @@ lone_element q i lines keeps held there =
       | inl same ↦ (Index i, [], ap (λ x. element x i) (sym same))
       | inr up ↦ (up.0, up.1 ++ Index i ∷ [], ap (λ x. element x i) up.2 ∙ append_assoc v.address (up.0 ∷ up.1) (Index i ∷ []))
     ]
-
-    has_value : (v : Named) → Has (λ y. y ≡ v) (named lines) → IsOver q v → HasValue lines v.address
-    has_value v among over =
-        any_of_has _ (named lines)
-        (has_weaker (λ y. y ≡ v) (λ m. (m.address ≡ v.address) × (is_lone m.role ≡ true))
-        (λ y is. (ap (λ m. m.address) is, ap (λ m. is_lone m.role) is ∙ ap is_lone over.valued)) (named lines) among)

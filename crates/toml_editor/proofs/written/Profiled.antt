@@ -100,7 +100,7 @@ module _ (v : Value) (manner : Manner) (plain : HasPlainTables v) where
   insert_plain q name ls new (inl (inl (at_root, first))) is = subst ArePlain (sym first) (plain, is)
   insert_plain q name ls new (inl (inr put)) is =
       subst ArePlain (sym put.is) (at_plain put.spacing (put.first ∷ put.rest) put.front put.back put.line (subst ArePlain put.was is))
-  insert_plain q name ls new (inr put) is =
+  insert_plain q name ls new (inr (implied, put)) is =
       subst ArePlain (sym (behind_header q name v manner ls new put))
       (at_plain put.spacing (name ∷ []) put.front put.back (header_line brackets.One q put.ws manner.newline)
       (header_plain brackets.One q manner.newline ls _ (header_put q name v manner ls new put) is))

@@ -106,7 +106,7 @@ may_be_refused profile text kinds (set p value) good none refused = by (kinds p)
     by (Some a_table) is = inl (inl is)
     by (Some an_array) is = inl (inr is)
     by (Some (a_scalar v)) is = absurd (refused good.tree good.spelled (scalar_has_value good.tree.lines p v ((good.facts p (a_scalar v)).0 is)))
-may_be_refused profile text kinds (insert p value) good none refused = absurd refused
+may_be_refused profile text kinds (insert p value) good none (q, i, own, outside) = inl (q, i, own)
 may_be_refused profile text kinds (rename p to) good none refused = absurd refused
 may_be_refused profile text kinds (remove p) good none (q, own, only) =
     inr (q, own, is_there profile kinds p none, is_not_there good.tree.lines kinds (element q 1) good.facts (only good.tree good.spelled).1)

@@ -16,7 +16,8 @@ use Rattle.toml_working.specs.Inserting.{new_line}
 use Rattle.toml_working.specs.Manners.{Manner}
 use Rattle.toml_editor.proofs.written.Clear.{below-cons}
 use Rattle.toml_editor.proofs.written.InsertNamed.{line_named, named_parts, next_named}
-use Rattle.toml_editor.proofs.written.InsertPlaces.{IsDottedAgain, IsPlace, fronts_dotted, key_parts}
+use Rattle.toml_working.specs.Premises.{HasSection}
+use Rattle.toml_editor.proofs.written.InsertPlaces.{IsDottedAgain, IsPlace, IsPutAt, fronts_dotted, key_parts}
 use Rattle.toml_editor.proofs.written.Plain.{behind, plain_is}
 use Rattle.toml_editor.proofs.written.Roles.{IsUnpassed}
 use Rattle.toml_editor.proofs.written.Pairwise.{Goes, Has, PairsAre, all_of_pairs, any_of_has, has_append_left, has_append_right, pairs_append, pairs_back, pairs_between, pairs_front, pairs_of_all}
@@ -151,38 +152,74 @@ again_any xs ys t again =
     (has_append_left _ xs ys
     (subst (Has (λ m. (m.address ≡ t.address) × (m.kind ≡ a_table))) (sym again.is) (has_append_right _ again.before (again.twin ∷ again.after) (inl (again.address, again.kind)))))
 
--- so it is where the new line stands
+-- ---- where the new line stands
+
+first_made : (q : Address) (name : List ℕ) (v : Value) (manner : Manner) (lines new : List Line) → q ≡ []
+    → new ≡ new_line plain_spacing (name ∷ []) v manner.newline ∷ lines
+    → named_plain new ≡ root ∷ (value_block (child q name) v ++ behind (root ∷ []) lines)
+first_made q name v manner lines new at_root first =
+    ap named_plain first ∙ plain_is (new_line plain_spacing (name ∷ []) v manner.newline ∷ lines)
+    ∙ ap (λ r. root ∷ r) (next_named [] name [] v plain_spacing manner.newline (root ∷ []) lines refl)
+    ∙ ap (λ a. root ∷ (value_block (child a name) v ++ behind (root ∷ []) lines)) (sym at_root)
+
+module _ (q : Address) (name : List ℕ) (v : Value) (manner : Manner) (lines new : List Line) (put : IsPutAt q name v manner lines new) where
+  -- what is named up to the line in front
+  abbrev in_front : List Named
+  in_front = named_plain (put.front ++ put.line ∷ [])
+
+  abbrev behind_it : List Named
+  behind_it = behind in_front put.back
+
+  was_named : named_plain lines ≡ in_front ++ behind_it
+  was_named = ap named_plain put.was ∙ named_parts put.front put.line put.back
+
+  line_made : named_plain new ≡ in_front ++ ((fronts 0 put.section_at (put.first ∷ put.rest) ++ value_block (child q name) v) ++ behind_it)
+  line_made =
+      ap named_plain put.is ∙ line_named put.section_at put.first put.rest v manner put.spacing put.front put.line put.back put.section_is
+      ∙ ap (λ a. in_front ++ ((fronts 0 put.section_at (put.first ∷ put.rest) ++ value_block a v) ++ behind_it)) (sym put.same)
+
+-- In the root, or in a table that has a header, nothing is named but the value.
+pub place_put : (q : Address) (name : List ℕ) (v : Value) (manner : Manner) (lines new : List Line) → IsPlace q name v manner lines new → HasSection lines q
+    → IsPut (named_plain lines) (value_block (child q name) v) (named_plain new)
+place_put q name v manner lines new (inl (at_root, first)) has = record {
+  front = root ∷ [];
+  back = behind (root ∷ []) lines;
+  before = plain_is lines;
+  after = first_made q name v manner lines new at_root first;
+}
+place_put q name v manner lines new (inr put) has = record {
+  front = in_front q name v manner lines new put;
+  back = behind_it q name v manner lines new put;
+  before = was_named q name v manner lines new put;
+  after =
+      line_made q name v manner lines new put
+      ∙ ap (λ k. in_front q name v manner lines new put ++ ((fronts 0 put.section_at (put.first ∷ k) ++ value_block (child q name) v) ++ behind_it q name v manner lines new put))
+      (put.own has);
+}
+
+-- In any table, tables are named once more, and then the value.
 pub place_named : (q : Address) (name : List ℕ) (v : Value) (manner : Manner) (lines new : List Line) → IsPlace q name v manner lines new
     → AreNamedFirst q (named_plain lines) (value_block (child q name) v) (named_plain new)
 place_named q name v manner lines new (inl (at_root, first)) =
-    subst₂ (λ old now. AreNamedFirst q old (value_block (child q name) v) now) (sym (plain_is lines)) (sym made)
+    subst₂ (λ old now. AreNamedFirst q old (value_block (child q name) v) now) (sym (plain_is lines))
+    (sym (first_made q name v manner lines new at_root first))
     (put_twice q [] (value_block (child q name) v) (root ∷ []) (behind (root ∷ []) lines) tt (λ keeps. keeps))
-  where
-    made : named_plain new ≡ root ∷ (value_block (child q name) v ++ behind (root ∷ []) lines)
-    made =
-        ap named_plain first ∙ plain_is (new_line plain_spacing (name ∷ []) v manner.newline ∷ lines)
-        ∙ ap (λ r. root ∷ r) (next_named [] name [] v plain_spacing manner.newline (root ∷ []) lines refl)
-        ∙ ap (λ a. root ∷ (value_block (child a name) v ++ behind (root ∷ []) lines)) (sym at_root)
 place_named q name v manner lines new (inr put) =
-    subst₂ (λ old now. AreNamedFirst q old (value_block (child q name) v) now) (sym (ap named_plain put.was ∙ named_parts put.front put.line put.back)) (sym made)
+    subst₂ (λ old now. AreNamedFirst q old (value_block (child q name) v) now) (sym (was_named q name v manner lines new put))
+    (sym (line_made q name v manner lines new put))
     (put_twice q tables (value_block (child q name) v) xs ys again rules)
   where
     key : Key
     key = put.first ∷ put.rest
 
     xs : List Named
-    xs = named_plain (put.front ++ put.line ∷ [])
+    xs = in_front q name v manner lines new put
 
     ys : List Named
-    ys = behind xs put.back
+    ys = behind_it q name v manner lines new put
 
     tables : List Named
     tables = fronts 0 put.section_at key
-
-    made : named_plain new ≡ xs ++ ((tables ++ value_block (child q name) v) ++ ys)
-    made =
-        ap named_plain put.is ∙ line_named put.section_at put.first put.rest v manner put.spacing put.front put.line put.back put.section_is
-        ∙ ap (λ a. xs ++ ((tables ++ value_block a v) ++ ys)) (sym put.same)
 
     outer : (ns : Key) × (key ≡ ns ++ name ∷ []) × (q ≡ below put.section_at ns)
     outer = key_parts q put.section_at name put.first put.rest put.same

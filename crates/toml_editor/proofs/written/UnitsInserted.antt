@@ -23,7 +23,7 @@ use Rattle.toml_working.specs.Headers.{names_of}
 use Rattle.toml_working.specs.Inserting.{has_pair, new_assign, new_expr, new_line, line_put}
 use Rattle.toml_working.specs.InsertingInTables.{insert_in}
 use Rattle.toml_working.specs.Manners.{Manner}
-use Rattle.toml_working.specs.Premises.{HasTable}
+use Rattle.toml_working.specs.Premises.{HasImplied, HasTable}
 use Rattle.toml_working.specs.Standing.{standing_from}
 use Rattle.toml_editor.specs.UnitBlocks.{Both, InsertUnits, IsBlockPut, OneLine, pair_line_units, pair_text}
 use Rattle.toml_editor.proofs.written.Alike.{alike_self, alike_pair}
@@ -173,7 +173,7 @@ module _ (q : Address) (name : List ℕ) (v : Value) (style ws : List ℕ) (s : 
 pub data IsPutIn (q : Address) (name : List ℕ) (v : Value) (manner : Manner) (lines new : List Line) : Type 0 where
   PutLine : (at : Address) → (first : List ℕ) → (rest : Key) → child q name ≡ below at (first ∷ rest) → (s : Spacing) → (manner.layout ≡ layouts.Plain → s ≡ plain_spacing)
       → IsPutWell (AreLines lines) (units lines) (block at first rest v s) (units new) (newlines lines) (newlines new) → IsPutIn q name v manner lines new
-  PutBoth : (ws : List ℕ) → (s : Spacing) → (manner.layout ≡ layouts.Plain → (ws ≡ []) × (s ≡ plain_spacing))
+  PutBoth : HasImplied lines q → (ws : List ℕ) → (s : Spacing) → (manner.layout ≡ layouts.Plain → (ws ≡ []) × (s ≡ plain_spacing))
       → IsPutWell (AreLines lines) (units lines) (both_blocks q name v [] ws s) (units new) (newlines lines) (newlines new) → IsPutIn q name v manner lines new
 
 module _ (q : Address) (name : List ℕ) (v : Value) (manner : Manner) where
@@ -192,14 +192,14 @@ module _ (q : Address) (name : List ℕ) (v : Value) (manner : Manner) where
       (subst₂ (λ ls ms. IsPutWell (AreLines ls) (units ls) mine (units ms) (newlines ls) (newlines ms)) (sym put.was) (sym put.is)
       (formed_well (IsExpr l.expr) (AreLines was) (units was) (units made) mine (newlines was) (newlines made) (line_formed put.front put.back l)
       (put_at put.section_at put.first put.rest v manner s l put.full put.front put.back (root ∷ []) 0 put.section_is)))
-  put_lines lines new (inr put) = by put.back put.some put.was put.is put.unkeyed
+  put_lines lines new (inr (implied, put)) = by put.back put.some put.was put.is put.unkeyed
     where
       by : (back : List Line) → ¬ (back ≡ []) → lines ≡ put.front ++ back
           → new ≡ put.front ++ header_line One q put.ws manner.newline ∷ new_line put.spacing (name ∷ []) v manner.newline ∷ back
           → has_pair back ≡ false → IsPutIn q name v manner lines new
       by [] some was is unkeyed = absurd (some refl)
       by (m ∷ ms) some was is unkeyed =
-          PutBoth put.ws put.spacing put.plain
+          PutBoth implied put.ws put.spacing put.plain
           (subst₂ (λ ls ms. IsPutWell (AreLines lines) (units ls) (both_blocks q name v manner.newline put.ws put.spacing) (units ms) (newlines ls) (newlines ms)) (sym was) (sym is)
           (put_among (AreLines lines) (both_blocks q name v manner.newline put.ws put.spacing) m ms
           (header_line One q put.ws manner.newline ∷ new_line put.spacing (name ∷ []) v manner.newline ∷ m ∷ ms) []
@@ -215,5 +215,5 @@ pub insert_units : InsertUnits
 insert_units q name v manner lines there = elim (puts_lines q name v manner lines there) [
   | PutLine at first rest same s plain well ↦
       OneLine at (first ∷ rest) (λ e. cc) same s plain (subst (λ a. IsBlockPut (units lines) (pair_line_units (fresh (pair_text s (first ∷ rest) v)) a (length at) v None) (units (insert_in q name v manner lines))) (sym same) well.put)
-  | PutBoth ws s plain well ↦ Both ws s plain well.put
+  | PutBoth implied ws s plain well ↦ Both implied ws s plain well.put
 ]

@@ -131,5 +131,5 @@ pub insert_keeps_lines : InsertKeepsLines
 insert_keeps_lines q name v manner lines there = elim (insert_in_place q name v manner lines there) [
   | inl (inl (at_root, first)) ↦ First at_root first
   | inl (inr put) ↦ Behind put.section_at (put.first ∷ put.rest) (λ e. cc) put.same put.front put.line put.back put.spacing put.plain put.was put.is
-  | inr put ↦ Ahead put.not_root put.front put.back put.ws put.spacing put.plain put.was put.is
+  | inr (implied, put) ↦ Ahead implied put.not_root put.front put.back put.ws put.spacing put.plain put.was put.is
 ]

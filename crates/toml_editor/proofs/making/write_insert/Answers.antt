@@ -5,7 +5,7 @@ use Rattle.toml_names.specs.model.Addresses.{Address}
 use Rattle.toml_tree.proofs.Proved.{one_value}
 use Rattle.toml_text.specs.Source.{text_of}
 use Rattle.toml_layout.specs.Opening.{OpensText}
-use Rattle.toml_working.specs.HeldLines.{PutsInValue}
+use Rattle.toml_working.specs.HeldLines.{PutsInValue, PutsNoElement}
 use Rattle.toml_working.specs.Parents.{IsParent}
 use Rattle.toml_working.specs.Putting.{InsertsLines, manner}
 use Rattle.toml_working.specs.InTables.{TreePutsIn}
@@ -80,3 +80,15 @@ returns-in_ok-named-in-Some-clause-below c =
 
 pub returns-in-None-clause-below : goal.returns-in-None-clause-below
 returns-in-None-clause-below c within v is = absurd (subst (OpensText c.args.read.profile c.args.value.now) c.in-None.is c.in_ok-new.ensures within v is)
+
+pub returns-in_ok-named-in-Some-clause-element : goal.returns-in_ok-named-in-Some-clause-element
+returns-in_ok-named-in-Some-clause-element c =
+    let p = c.args.at.now in
+    IfOk-weaker c.insert.result _ _
+    (λ done none within v is q last split.
+    subst (λ r. PutsNoElement r p (read_of c.args.read.before) c.args.tree.now done)
+    (parent_is p q c.in_ok-parent-in-Some.parent last c.in_ok-parent-in-Some.ensures split) none)
+    c.insert.ensures.element
+
+pub returns-in-None-clause-element : goal.returns-in-None-clause-element
+returns-in-None-clause-element c within v is = absurd (subst (OpensText c.args.read.profile c.args.value.now) c.in-None.is c.in_ok-new.ensures within v is)

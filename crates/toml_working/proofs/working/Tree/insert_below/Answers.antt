@@ -1,4 +1,4 @@
-use Rattle.std.proofs.Common.{◌≡◌, true, subst, sym}
+use Rattle.std.proofs.Common.{◌≡◌, ◌∙◌, true, subst, sym, true≢false}
 use Rattle.std.proofs.lemmas.Result.{IfOk-weaker}
 use Rattle.toml_text.specs.Source.{text_of}
 use Rattle.toml_layout.specs.Holding.{PutsHeld}
@@ -11,7 +11,7 @@ use Rattle.toml_working.specs.declared.lines.Sought.TheVariants.{Dotted, Header,
 use Rattle.toml_working.proofs.Alone.{below_is, dotted_is, heads_is}
 use Rattle.toml_working.proofs.Sectioned.{never_held}
 use Rattle.toml_working.proofs.AtPlace.{holder_at}
-use Rattle.toml_working.proofs.HeldLines.{child_held, line_held, not_held}
+use Rattle.toml_working.proofs.HeldLines.{child_held, held_there, line_held, not_held}
 use Rattle.toml_working.proofs.working.Tree.insert_below.Goals as goal
 
 pub returns-in-Some-clause-value : goal.returns-in-Some-clause-value
@@ -62,3 +62,15 @@ returns-in-None-clause-below c =
       implied = implied;
     })
     c.insert_line.ensures.below c.insert_line.ensures.dotted c.insert_line.ensures.implied
+
+pub returns-in-Some-clause-element : goal.returns-in-Some-clause-element
+returns-in-Some-clause-element c =
+    let read = read_of c.args.before in
+    let tree = c.args.self.now in
+    let parent = c.args.parent.now in
+    let found = subst (FindsHolder parent c.args.before.units.now tree.slots.items) c.in-Some.is c.value_line.ensures.0 read.lines in
+    if_ok_always _ c.change_value.result (λ done ss stands ordered none is_element.
+    absurd (true≢false (sym (held_there parent (text_of tree.texts.source) read tree.slots.items c.in-Some.place ss found stands) ∙ none)))
+
+pub returns-in-None-clause-element : goal.returns-in-None-clause-element
+returns-in-None-clause-element c = IfOk-weaker c.insert_line.result _ _ (λ done refuses. λ ss stands ordered none. refuses) c.insert_line.ensures.element

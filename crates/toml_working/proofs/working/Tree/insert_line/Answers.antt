@@ -1,14 +1,22 @@
-use Rattle.std.proofs.Common.{◌∙◌, ap, arith, refl, sym, subst}
+use Rattle.std.proofs.Common.{◌≡◌, ◌∙◌, ◌∷◌, ◌++◌, ℕ, Bool, List, [], ap, arith, refl, sym, subst, true≢false}
+use Rattle.std.specs.Prelude.{is_some}
 use Rattle.std.specs.List.{list_any}
 use Rattle.std.proofs.lemmas.Option.{same_Some}
 use Rattle.std.proofs.lemmas.Result.{on_ok_weaker}
+use Rattle.toml_names.specs.declared.model.address.Step.{Step}
+use Rattle.toml_names.specs.declared.model.address.Step.TheVariants.{Name}
+use Rattle.toml_names.specs.model.Addresses.{Address}
 use Rattle.toml_layout.specs.OpenOutlines.{value}
+use Rattle.toml_working.specs.Headers.{element_of}
+use Rattle.toml_working.specs.HeldLines.{RefusesElement}
 use Rattle.toml_working.specs.Putting.{manner}
 use Rattle.toml_working.specs.Seeing.{IsHeaderPlace, IsTableLine, is_sought_line}
 use Rattle.toml_working.specs.Starting.{read_of}
 use Rattle.toml_working.specs.TablePlaces.{IsImpliedPlace}
 use Rattle.toml_working.specs.declared.lines.Sought.TheVariants.{Dotted, Header, HeaderBelow}
+use Rattle.toml_working.proofs.Answered.{if_ok_always}
 use Rattle.toml_working.proofs.DottedPut.{puts_dotted}
+use Rattle.toml_working.proofs.HeaderSteps.{ends_in_name}
 use Rattle.toml_working.proofs.Sectioned.{puts_below}
 use Rattle.toml_working.proofs.working.Tree.insert_line.Goals as goal
 
@@ -64,3 +72,23 @@ returns-in-Some-Implicit-clause-implied c =
     (subst (IsTableLine q read tree.slots.items) c.in-Some-Implicit.field-0-is (c.in-Some-Implicit.ensures.finds read.lines))
     (subst (IsImpliedPlace q read tree.slots.items) (sym (same_Some _ _ is) ∙ c.in-Some-Implicit.field-0-is) first))
     c.insert_ahead.ensures.put
+
+-- what ends in a name is no element
+no_element : (at above : Address) (last : Step) (n : List ℕ) → at ≡ above ++ last ∷ [] → last ≡ Name n → (done : Bool) → RefusesElement at done
+no_element at above last n is named done element =
+    absurd (true≢false (sym element ∙ ap (λ a. is_some (element_of a)) (is ∙ ap (λ s. above ++ s ∷ []) named) ∙ ap is_some (ends_in_name above n)))
+
+pub returns-in-Some-Header-clause-element : goal.returns-in-Some-Header-clause-element
+returns-in-Some-Header-clause-element c =
+    if_ok_always _ c.insert_in_section.result
+    (no_element c.args.insertion.at.now c.in-Some.above.now c.in-Some.last.now _ (sym c.steps.ensures ∙ c.in-Some.ensures.cases.0) c.in-Name.is)
+
+pub returns-in-Some-Dotted-clause-element : goal.returns-in-Some-Dotted-clause-element
+returns-in-Some-Dotted-clause-element c =
+    if_ok_always _ c.insert_in_section-in-Some-Dotted.result
+    (no_element c.args.insertion.at.now c.in-Some.above.now c.in-Some.last.now _ (sym c.steps.ensures ∙ c.in-Some.ensures.cases.0) c.in-Name.is)
+
+pub returns-in-Some-Implicit-clause-element : goal.returns-in-Some-Implicit-clause-element
+returns-in-Some-Implicit-clause-element c =
+    if_ok_always _ c.insert_ahead.result
+    (no_element c.args.insertion.at.now c.in-Some.above.now c.in-Some.last.now _ (sym c.steps.ensures ∙ c.in-Some.ensures.cases.0) c.in-Name.is)
