@@ -40,6 +40,8 @@ pub mod Changing
 pub mod HeldLines
 pub mod RemoveStanding
 pub mod RemovingIn
+pub mod RemovingTables
+pub mod FlatTables
 -- what a plain edit writes
 pub mod Lines
 pub mod Setting
