@@ -10,10 +10,10 @@ use Rattle.toml_editor.specs.Exact.{WritesEdit}
 use Rattle.toml_working.specs.Standing.{Read}
 use Rattle.toml_working.specs.Starting.{NoneIsGone}
 
-pub edit_written : {E : Type 0} (r : Result Bool E) (profile : Profile) (read : Read) (old new : Tree) (at : Address) (e f : Edit) → e ≡ f
+pub edit_written : {E : Type 0} (r : Result Bool E) (profile : Profile) (read : Read) (flat : Bool) (old new : Tree) (at : Address) (e f : Edit) → e ≡ f
     → (NoneIsGone old.elements → at ≡ place (change e))
-    → ((NoneIsGone old.elements → at ≡ place (change f)) → IfOk r (WritesEdit profile read (change f) old new))
-    → IfOk r (WritesEdit profile read (change e) old new)
-edit_written r profile read old new at e f is finds writes =
-    subst (λ x. IfOk r (WritesEdit profile read (change x) old new)) (sym is)
+    → ((NoneIsGone old.elements → at ≡ place (change f)) → IfOk r (WritesEdit profile read flat (change f) old new))
+    → IfOk r (WritesEdit profile read flat (change e) old new)
+edit_written r profile read flat old new at e f is finds writes =
+    subst (λ x. IfOk r (WritesEdit profile read flat (change x) old new)) (sym is)
     (writes (λ whole. finds whole ∙ ap (λ x. place (change x)) is))

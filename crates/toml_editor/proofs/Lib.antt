@@ -3,6 +3,8 @@ pub mod MadeEdits
 pub mod MakesExact
 pub mod PlainMade
 pub mod OneChanged
+pub mod EachEdit
+pub mod LastAnswered
 pub mod PassedRefused
 pub mod Judgements
 pub mod PlainAnswers

@@ -23,9 +23,9 @@ use Rattle.toml_editor.specs.declared.fault.EditorFault.{EditorFault}
 use Rattle.toml_editor.specs.declared.fault.EditorFault.TheVariants as faults
 use Rattle.toml_working.specs.declared.working.Tree.{Tree}
 use Rattle.toml_editor.specs.CertifiedLists.{ArePlain}
-use Rattle.toml_editor.specs.Edited.{MayBeRefused, MayBeSpread, TakesLastElement}
-use Rattle.toml_editor.specs.LastTexts.{ChangesLines, IsInContainer, IsPutThere}
-use Rattle.toml_editor.specs.Exact.{Follows, HoldsOne, IsAt, IsNeitherAt, IsNeitherOn, HoldsLast, MakesAll, MakesOne, OfPlain, OfNoPlaceAt, PassesAll, PassesAt, PassesOne, Stops, WritesEdit}
+use Rattle.toml_editor.specs.Edited.{MayBeRefused, MayBeSpread, RemovesFlat, TakesLastElement}
+use Rattle.toml_editor.specs.LastTexts.{ChangesLines, IsOneChange, IsPutThere}
+use Rattle.toml_editor.specs.Exact.{Follows, HoldsOne, IsAt, IsNeitherAt, IsNeitherOn, HoldsLast, MakesAll, MakesOne, OfPlain, OfNoPlaceAt, PassesAll, PassesAt, PassesOne, Stops, WritesEdit, ShowsEdit}
 use Rattle.toml_working.specs.Putting.{manner}
 use Rattle.toml_editor.specs.Making.{TellsOne}
 use Rattle.toml_editor.specs.PlainTexts.{HasContainerFor, IsPlainOrHeld, IsPlainOn, IsRefusedIn}
@@ -45,38 +45,41 @@ use Rattle.toml_editor.proofs.written.RemoveNamed.{line_parts}
 use Rattle.toml_editor.proofs.written.RenameFollow.{rename_follows}
 use Rattle.toml_editor.proofs.written.HeaderFollow.{element_follows, element_refused, section_follows, section_refused}
 use Rattle.toml_editor.proofs.written.LastRefused.{insert_refused, last_refused}
+use Rattle.toml_editor.proofs.written.TableLines.{stand_together}
+use Rattle.toml_editor.proofs.written.TablesTaken.{table_is_taken}
+use Rattle.toml_working.specs.RemovingTables.{remove_below}
 use Rattle.toml_editor.proofs.written.StandingOrder.{rules_order}
 use Rattle.toml_editor.proofs.written.Steps.{one_list_written}
 use Rattle.toml_working.specs.Manners.{Manner}
 
 -- a `set` that is plain is made, and what is written of it on the working tree is what it writes
-set_made : (profile : Profile) (read : Read) (p : Address) (value : List ℕ) (old new : Tree) (done : Bool) → WritesEdit profile read (set p value) old new done
+set_made : (profile : Profile) (read : Read) (flat : Bool) (p : Address) (value : List ℕ) (old new : Tree) (done : Bool) → WritesEdit profile read flat (set p value) old new done
     → (text : List ℕ) (kinds now : Kinds) → IsAt profile read old text kinds → IsFault profile (set p value) kinds None
     → IsAfter profile (set p value) kinds now → IsPlainOn profile text (set p value) → (done ≡ true) × Follows profile read (set p value) old new text now
-set_made profile read p value old new done writes text kinds now at none is_after plain =
+set_made profile read flat p value old new done writes text kinds now at none is_after plain =
     let (rest, sets) = writes at.whole in
     let given = is_after.1.value in
     set_follows profile read old new p value text kinds now at none is_after (plain at.good.tree at.good.spelled) rest (none RootNamed)
     given.tree given.is_value done (sets given.within given.tree given.is_value)
 
 -- what is written of an edit on the working tree is what the edit writes
-pub makes_one : (profile : Profile) (read : Read) (c : Change) (old new : Tree) (done : Bool) → WritesEdit profile read c old new done
+pub makes_one : (profile : Profile) (read : Read) (flat : Bool) (c : Change) (old new : Tree) (done : Bool) → WritesEdit profile read flat c old new done
     → MakesOne profile read c old new
-makes_one profile read (set p value) old new done writes text kinds now at none is_after plain =
-    (set_made profile read p value old new done writes text kinds now at none is_after plain).1
-makes_one profile read (insert p value) old new done writes text kinds now at none is_after plain =
+makes_one profile read flat (set p value) old new done writes text kinds now at none is_after plain =
+    (set_made profile read flat p value old new done writes text kinds now at none is_after plain).1
+makes_one profile read flat (insert p value) old new done writes text kinds now at none is_after plain =
     let (steps, rest, spelled, inserts, inside, below, no_element) = writes at.whole in
     let given = is_after.1.value in
     insert_follows profile read old new p value text kinds now at none is_after (plain at.good.tree at.good.spelled) rest
     given.tree given.is_value steps spelled (inserts given.within given.tree given.is_value) (below given.within given.tree given.is_value)
-makes_one profile read (rename p to) old new done writes text kinds now at none is_after plain =
+makes_one profile read flat (rename p to) old new done writes text kinds now at none is_after plain =
     rename_follows profile read old new p to text kinds now at none is_after (writes at.whole)
-makes_one profile read (remove p) old new done writes text kinds now at none is_after plain =
+makes_one profile read flat (remove p) old new done writes text kinds now at none is_after plain =
     remove_follows profile read old new p text kinds now at none is_after (plain at.good.tree at.good.spelled) (writes at.whole).0
-makes_one profile read (new_section p) old new done writes text kinds now at none is_after plain =
+makes_one profile read flat (new_section p) old new done writes text kinds now at none is_after plain =
     let (steps, spelled, rest, puts) = writes at.whole in
     (section_follows profile read old new p text kinds now at none is_after (plain at.good.tree at.good.spelled) rest steps spelled done puts).1
-makes_one profile read (new_element p) old new done writes text kinds now at none is_after plain =
+makes_one profile read flat (new_element p) old new done writes text kinds now at none is_after plain =
     let (steps, spelled, rest, puts) = writes at.whole in
     (element_follows profile read old new p text kinds now at none is_after (plain at.good.tree at.good.spelled) rest steps spelled done puts).1
 
@@ -85,15 +88,15 @@ put_there : (q : Address) (last : Step) (lines : List Line) → IsPutThere lines
 put_there q (Index i) lines there = there
 put_there q (Name n) lines held = parent_held q (Name n) (standing lines) held
 
-put_is_made : (near : Kinds) (p : Address) (value : List ℕ) (lines : List Line) (done : Bool) → (done ≡ true) ⊎ (¬ MayBeSpread (insert p value) near)
+put_is_made : (near : Kinds) (p : Address) (value : List ℕ) (lines : List Line) (done : Bool) → (done ≡ true) ⊎ (¬ MayBeRefused (insert p value) near)
     → done ≡ list_any (has_container_at p) (standing lines) → (q : Address) (last : Step) → p ≡ q ++ last ∷ [] → IsPutThere lines q last → done ≡ true
 put_is_made near p value lines done (inl made) told q last is there = made
-put_is_made near p value lines done (inr one) told q (Index i) is there = absurd (one (q, i, is))
+put_is_made near p value lines done (inr one) told q (Index i) is there = absurd (one (inl (q, i, is)))
 put_is_made near p value lines done (inr one) told q (Name n) is there = told ∙ ap (λ a. list_any (has_container_at a) (standing lines)) is ∙ there
 
-pub holds_one : (profile : Profile) (read : Read) (near : Kinds) (c : Change) (old new : Tree) (done : Bool) → WritesEdit profile read c old new done
-    → (done ≡ true) ⊎ (¬ MayBeSpread c near) → HoldsOne profile read c old new
-holds_one profile read near (insert p value) old new done writes either text kinds now at is_after (q, last, is, not_root, there) =
+pub holds_one : (profile : Profile) (read : Read) (flat : Bool) (near : Kinds) (c : Change) (old new : Tree) (done : Bool) → WritesEdit profile read flat c old new done
+    → (flat ≡ true → RemovesFlat c near) → (done ≡ true) ⊎ (¬ MayBeRefused c near) → HoldsOne profile read near c old new
+holds_one profile read flat near (insert p value) old new done writes is_flat either text kinds now at none is_after shows (q, last, is, not_root, there) =
     let (steps, rest, spelled, inserts, inside, below, no_element) = writes at.whole in
     let given = is_after.1.value in
     let lines = at.good.tree.lines in
@@ -112,16 +115,28 @@ holds_one profile read near (insert p value) old new done writes either text kin
         put = changed;
       },
     )
-holds_one profile read near (remove p) old new done writes either text kinds now at is_after there =
+holds_one profile read flat near (remove p) old new done writes is_flat either text kinds now at none is_after shows (inl there) =
     let lines = at.good.tree.lines in
     let (not_root, inside) = held_inside p (standing lines) there in
     let held = (writes at.whole).1 not_root (standing lines) at.stands (rules_order lines at.good.good.0) inside in
     let (ts, stands, changed) = held.made (held.tells ∙ there) in
-    (ts, stands, (there, changed))
-holds_one profile read near (set p value) old new done writes either text kinds now at is_after there = absurd there
-holds_one profile read near (rename p to) old new done writes either text kinds now at is_after there = absurd there
-holds_one profile read near (new_section p) old new done writes either text kinds now at is_after there = absurd there
-holds_one profile read near (new_element p) old new done writes either text kinds now at is_after there = absurd there
+    (ts, stands, inl (there, changed))
+holds_one profile read flat near (remove p) old new done writes is_flat either text kinds now at none is_after shows (inr outside) =
+    let lines = at.good.tree.lines in
+    let rules = at.good.good.0 in
+    let written = writes at.whole in
+    let removed = written.3 (none RootNamed) (standing lines) at.stands outside
+    (stand_together p flat lines kinds at.good.spelled.0.lines.forms rules at.good.facts (none RootNamed) outside (λ is. shows.flat (is_flat is))) in
+    let is_done = table_is_taken profile p lines kinds at.good.facts none outside done removed.tells
+    (written.2 (standing lines) at.stands (rules_order lines rules) outside) (elim either [
+      | inl made ↦ inl made
+      | inr one ↦ inr (λ last. one (shows.refused (inr last)))
+    ]) in
+    (remove_below p (standing lines), removed.made is_done, inr (outside, refl))
+holds_one profile read flat near (set p value) old new done writes is_flat either text kinds now at none is_after shows there = absurd there
+holds_one profile read flat near (rename p to) old new done writes is_flat either text kinds now at none is_after shows there = absurd there
+holds_one profile read flat near (new_section p) old new done writes is_flat either text kinds now at none is_after shows there = absurd there
+holds_one profile read flat near (new_element p) old new done writes is_flat either text kinds now at none is_after shows there = absurd there
 
 -- ---- edits that are not made
 
@@ -134,10 +149,10 @@ no_element (s ∷ u ∷ q) [] i name is = cc
 no_element (s ∷ q) (t ∷ r) i name is = let rest : element q i ≡ child r name = cc in no_element q r i name rest
 
 -- what holds what is put in, or taken out, is found
-put_is_found : (profile : Profile) (read : Read) (p : Address) (value : List ℕ) (old new : Tree) (done : Bool) → WritesEdit profile read (insert p value) old new done
+put_is_found : (profile : Profile) (read : Read) (flat : Bool) (p : Address) (value : List ℕ) (old new : Tree) (done : Bool) → WritesEdit profile read flat (insert p value) old new done
     → (text : List ℕ) (kinds now : Kinds) → (at : IsAt profile read old text kinds) → IsAfter profile (insert p value) kinds now
     → HasContainerFor at.good.tree.lines (insert p value) → done ≡ true
-put_is_found profile read p value old new done writes text kinds now at is_after (q, last, is, not_root, held) =
+put_is_found profile read flat p value old new done writes text kinds now at is_after (q, last, is, not_root, held) =
     let (steps, rest, spelled, inserts, inside, below, no_element) = writes at.whole in
     let given = is_after.1.value in
     let lines = at.good.tree.lines in
@@ -145,38 +160,38 @@ put_is_found profile read p value old new done writes text kinds now at is_after
     let there = parent_held q last (standing lines) (subst (λ a. list_any (has_container_at a) (standing lines) ≡ true) is held) in
     (holds_it q last is not_root (standing lines) at.stands (rules_order lines at.good.good.0) there).tells ∙ held
 
-taken_is_found : (profile : Profile) (read : Read) (p : Address) (old new : Tree) (done : Bool) → WritesEdit profile read (remove p) old new done
+taken_is_found : (profile : Profile) (read : Read) (flat : Bool) (p : Address) (old new : Tree) (done : Bool) → WritesEdit profile read flat (remove p) old new done
     → (text : List ℕ) (kinds : Kinds) → (at : IsAt profile read old text kinds) → HasContainerFor at.good.tree.lines (remove p) → done ≡ true
-taken_is_found profile read p old new done writes text kinds at held =
+taken_is_found profile read flat p old new done writes text kinds at held =
     let lines = at.good.tree.lines in
     let (not_root, inside) = held_inside p (standing lines) held in
     ((writes at.whole).1 not_root (standing lines) at.stands (rules_order lines at.good.good.0) inside).tells ∙ held
 
 -- one that is not made, and whose place may be spread, has no one place
-pub not_spread : (profile : Profile) (read : Read) (seen : Kinds) (c : Change) (old new : Tree) (done : Bool)
-    → WritesEdit profile read c old new done → done ≡ false → MayBeSpread c seen → IsNeitherOn profile read c old
-not_spread profile read seen (set p value) old new done writes is may text kinds now at none is_after one =
-    true≢false (sym (set_made profile read p value old new done writes text kinds now at none is_after plain).0 ∙ is)
+pub not_spread : (profile : Profile) (read : Read) (flat : Bool) (seen : Kinds) (c : Change) (old new : Tree) (done : Bool)
+    → WritesEdit profile read flat c old new done → done ≡ false → MayBeSpread c seen → IsNeitherOn profile read c old
+not_spread profile read flat seen (set p value) old new done writes is may text kinds now at none is_after one =
+    true≢false (sym (set_made profile read flat p value old new done writes text kinds now at none is_after plain).0 ∙ is)
   where
     plain : IsPlainOn profile text (set p value)
     plain d spelled = elim (one d spelled) [
       | inl h ↦ h
       | inr h ↦ absurd h
     ]
-not_spread profile read seen (insert p value) old new done writes is (q, j, at_index) text kinds now at none is_after one =
+not_spread profile read flat seen (insert p value) old new done writes is (q, j, at_index) text kinds now at none is_after one =
     elim (one at.good.tree at.good.spelled) [
       | inl (table, name, at_name, there) ↦ no_element q table j name (sym at_index ∙ at_name)
-      | inr h ↦ true≢false (sym (put_is_found profile read p value old new done writes text kinds now at is_after h) ∙ is)
+      | inr h ↦ true≢false (sym (put_is_found profile read flat p value old new done writes text kinds now at is_after h) ∙ is)
     ]
-not_spread profile read seen (rename p to) old new done writes is may text kinds now at none is_after one = may
-not_spread profile read seen (remove p) old new done writes is may text kinds now at none is_after one = may
-not_spread profile read seen (new_section p) old new done writes is may text kinds now at none is_after one = elim (one at.good.tree at.good.spelled) [
+not_spread profile read flat seen (rename p to) old new done writes is may text kinds now at none is_after one = may
+not_spread profile read flat seen (remove p) old new done writes is may text kinds now at none is_after one = may
+not_spread profile read flat seen (new_section p) old new done writes is may text kinds now at none is_after one = elim (one at.good.tree at.good.spelled) [
   | inl h ↦
       let (steps, spelled, rest, puts) = writes at.whole in
       true≢false (sym (section_follows profile read old new p text kinds now at none is_after h rest steps spelled done puts).0 ∙ is)
   | inr h ↦ h
 ]
-not_spread profile read seen (new_element p) old new done writes is may text kinds now at none is_after one = elim (one at.good.tree at.good.spelled) [
+not_spread profile read flat seen (new_element p) old new done writes is may text kinds now at none is_after one = elim (one at.good.tree at.good.spelled) [
   | inl h ↦
       let (steps, spelled, rest, puts) = writes at.whole in
       true≢false (sym (element_follows profile read old new p text kinds now at none is_after h rest steps spelled done puts).0 ∙ is)
@@ -184,47 +199,47 @@ not_spread profile read seen (new_element p) old new done writes is may text kin
 ]
 
 -- nor has one that takes a last element
-pub not_last : (profile : Profile) (read : Read) (seen : Kinds) (c : Change) (old new : Tree) (done : Bool) → WritesEdit profile read c old new done
+pub not_last : (profile : Profile) (read : Read) (flat : Bool) (seen : Kinds) (c : Change) (old new : Tree) (done : Bool) → WritesEdit profile read flat c old new done
     → done ≡ false → TakesLastElement c seen → IsNeitherOn profile read c old
-not_last profile read seen (remove p) old new done writes is (q, at_index, some, only) text kinds now at none is_after one =
+not_last profile read flat seen (remove p) old new done writes is (q, at_index, some, only) text kinds now at none is_after one =
     elim (one at.good.tree at.good.spelled) [
       | inl h ↦ let (table, name, at_name) = line_parts p at.good.tree.lines h in no_element q table 0 name (sym at_index ∙ at_name)
-      | inr h ↦ true≢false (sym (taken_is_found profile read p old new done writes text kinds at h) ∙ is)
+      | inr h ↦ true≢false (sym (taken_is_found profile read flat p old new done writes text kinds at h) ∙ is)
     ]
-not_last profile read seen (set p value) old new done writes is takes text kinds now at none is_after one = takes
-not_last profile read seen (insert p value) old new done writes is takes text kinds now at none is_after one = takes
-not_last profile read seen (rename p to) old new done writes is takes text kinds now at none is_after one = takes
-not_last profile read seen (new_section p) old new done writes is takes text kinds now at none is_after one = takes
-not_last profile read seen (new_element p) old new done writes is takes text kinds now at none is_after one = takes
+not_last profile read flat seen (set p value) old new done writes is takes text kinds now at none is_after one = takes
+not_last profile read flat seen (insert p value) old new done writes is takes text kinds now at none is_after one = takes
+not_last profile read flat seen (rename p to) old new done writes is takes text kinds now at none is_after one = takes
+not_last profile read flat seen (new_section p) old new done writes is takes text kinds now at none is_after one = takes
+not_last profile read flat seen (new_element p) old new done writes is takes text kinds now at none is_after one = takes
 
 -- where one is made, or the data tell that it is not refused, it is not
-pub passes_one : (profile : Profile) (read : Read) (near : Kinds) (c : Change) (old new : Tree) (done : Bool) → WritesEdit profile read c old new done
+pub passes_one : (profile : Profile) (read : Read) (flat : Bool) (near : Kinds) (c : Change) (old new : Tree) (done : Bool) → WritesEdit profile read flat c old new done
     → (done ≡ true) ⊎ (¬ MayBeRefused c near) → PassesOne profile read near c old
-passes_one profile read near c old new done writes (inr one) text kinds now at none is_after may refused = one may
-passes_one profile read near (set p value) old new done writes (inl is) text kinds now at none is_after may refused =
+passes_one profile read flat near c old new done writes (inr one) text kinds now at none is_after may refused = one may
+passes_one profile read flat near (set p value) old new done writes (inl is) text kinds now at none is_after may refused =
     let (rest, sets) = writes at.whole in
     let given = is_after.1.value in
     refused at.good.tree at.good.spelled
     (set_is_there profile read old new p text kinds at (none RootNamed) given.tree done (sets given.within given.tree given.is_value) is)
-passes_one profile read near (insert p value) old new done writes (inl is) text kinds now at none is_after may refused =
+passes_one profile read flat near (insert p value) old new done writes (inl is) text kinds now at none is_after may refused =
     let (steps, rest, spelled, inserts, inside, below, no_element) = writes at.whole in
     let given = is_after.1.value in
     true≢false (sym is ∙ insert_refused profile read old p value text kinds at done (no_element given.within given.tree given.is_value) refused)
-passes_one profile read near (rename p to) old new done writes (inl is) text kinds now at none is_after may refused = refused
-passes_one profile read near (remove p) old new done writes (inl is) text kinds now at none is_after may refused =
+passes_one profile read flat near (rename p to) old new done writes (inl is) text kinds now at none is_after may refused = refused
+passes_one profile read flat near (remove p) old new done writes (inl is) text kinds now at none is_after may refused =
     true≢false (sym is ∙ last_refused profile read old p text kinds at none done (writes at.whole).2 refused)
-passes_one profile read near (new_section p) old new done writes (inl is) text kinds now at none is_after may refused =
+passes_one profile read flat near (new_section p) old new done writes (inl is) text kinds now at none is_after may refused =
     let (steps, spelled, rest, puts) = writes at.whole in
     true≢false (sym is ∙ section_refused profile read old new p text kinds at none steps spelled done puts refused)
-passes_one profile read near (new_element p) old new done writes (inl is) text kinds now at none is_after may refused =
+passes_one profile read flat near (new_element p) old new done writes (inl is) text kinds now at none is_after may refused =
     let (steps, spelled, rest, puts) = writes at.whole in
     true≢false (sym is ∙ element_refused profile read old new p text kinds at none steps spelled done puts refused)
 
 -- ---- lists
 
 -- no edit is made yet
-pub none_last : (profile : Profile) (read : Read) (tree : Tree) → HoldsLast profile read [] tree tree
-none_last profile read tree front c is = absurd (no_end front c [] is)
+pub none_last : (profile : Profile) (read : Read) (near : Kinds) (tree : Tree) → HoldsLast profile read near [] tree tree
+none_last profile read near tree front c is = absurd (no_end front c [] is)
 
 written_more : (profile : Profile) (cs : List Change) (c : Change) (manner : Manner) (before mid after : List ℕ) (edits : AreWritten profile cs manner before mid)
     → IsWritten profile c (last_manner profile cs manner before mid edits) mid after → AreWritten profile (cs ++ c ∷ []) manner before after
@@ -291,17 +306,19 @@ more_made profile read cs c old tree new all makes text kinds now at lead plain 
     }
 
 -- one more is, of which it is told what it makes
-pub last_made : (profile : Profile) (read : Read) (cs : List Change) (c : Change) (old mid new : Tree) → MakesAll profile read cs old mid
-    → HoldsOne profile read c mid new → HoldsLast profile read (cs ++ c ∷ []) old new
-last_made profile read cs c old mid new makes one front d is text kinds now last at lead is_after plain between written e spells there =
+pub last_made : (profile : Profile) (read : Read) (cs : List Change) (c : Change) (near part : Kinds) (old mid new : Tree) → Lead profile cs near part
+    → MakesAll profile read cs old mid → HoldsOne profile read part c mid new → HoldsLast profile read near (cs ++ c ∷ []) old new
+last_made profile read cs c near part old mid new led makes one front d is text kinds now last at lead none is_after shows plain between written e spells there =
     let (fronts, edits) = same_from_push cs front c d is in
     let all = makes text kinds now at (subst (λ es. Lead profile es kinds now) (sym fronts) lead)
     (subst (λ es. ArePlain profile es (manner old) text) (sym fronts) plain) in
     let text_is : all.after ≡ between = one_list_written profile cs (manner old) text all.after between all.written
     (subst (λ es. AreWritten profile es (manner old) text between) (sym fronts) written) in
     let tree_is : all.at.good.tree ≡ e = one_tree all.at.good.tree e all.after all.at.good.spelled.0 (subst (Spells e) (sym text_is) spells.0) in
-    let (ts, stands, changed) = one all.after now last all.at (subst (λ x. IsAfter profile x now last) (sym edits) is_after)
-    (subst₂ (λ (x : Doc) y. IsInContainer x.lines y) (sym tree_is) (sym edits) there) in (
+    let (ts, stands, changed) = one all.after now last all.at (subst (λ x. IsFault profile x now None) (sym edits) none)
+    (subst (λ x. IsAfter profile x now last) (sym edits) is_after)
+    (subst (λ x. ShowsEdit x part now) (sym edits) (shows part (subst (λ es. Lead profile es near part) fronts led)))
+    (subst₂ (λ (x : Doc) y. IsOneChange x.lines y) (sym tree_is) (sym edits) there) in (
       ts,
       subst (λ t. Stands t read new.slots.items ts) (ap (λ (s : Texts). text_of s.source) all.texts) stands,
       subst (λ x. ChangesLines x profile d (standing e.lines) ts)

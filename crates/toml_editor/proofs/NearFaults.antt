@@ -1,6 +1,6 @@
 -- What edits tell of the data that they can touch, they tell of all data.
 use Rattle.std.proofs.Math.Path.{fun_ext}
-use Rattle.std.proofs.Common.{◌≡◌, inl, inr, ℕ, zero, suc, List, [], ◌∷◌, append-nil, take, Option, Some, None, false, cond, refl, sym, ap, subst, ◌∙◌}
+use Rattle.std.proofs.Common.{◌≡◌, inl, inr, ℕ, zero, suc, List, [], ◌∷◌, ◌++◌, append-nil, take, Option, Some, None, false, cond, refl, sym, ap, subst, ◌∙◌}
 use Rattle.std.proofs.lemmas.Option.{same_Some}
 use Rattle.std.specs.Prelude.{IsSome, slice_get}
 use Rattle.toml_tree.specs.Spells.{Spells}
@@ -20,8 +20,10 @@ use Rattle.toml_edits.specs.Edits.{Change, place}
 use Rattle.toml_edits.specs.Edits as edits
 use Rattle.toml_edits.specs.Faults.{IsFault}
 use Rattle.toml_edits.specs.Near.{AreNear, IsNear}
-use Rattle.toml_edits.proofs.Proved.{leads_beside, fault_beside}
-use Rattle.toml_editor.specs.Edited.{SoFar, OfDefined, TakesLastElement, MayBeRefused, MayBeSpread}
+use Rattle.toml_edits.proofs.Proved.{leads_beside, fault_beside, one_lead}
+use Rattle.toml_edits.specs.Lists.{Lead}
+use Rattle.toml_editor.specs.Edited.{SoFar, OfDefined, RemovesFlat, TakesLastElement, MayBeRefused, MayBeSpread}
+use Rattle.toml_editor.specs.Exact.{ShowsEdit}
 use Rattle.toml_editor.specs.Making.{TellsAny}
 use Rattle.toml_editor.specs.declared.fault.EditorFault.{EditorFault}
 use Rattle.toml_editor.specs.declared.fault.EditorFault.TheVariants as faults
@@ -79,6 +81,32 @@ refused_near hidden old (edits.remove at) new is (inr (q, e, some, none)) =
     inr (q, e, subst IsSome (sym (place_shown hidden (edits.remove at) old new is)) some, shown hidden old new (element q 1) (is.elements q (Index 0 ∷ []) 1 e) ∙ none)
 refused_near hidden old (edits.new_section at) new is h = h
 refused_near hidden old (edits.new_element at) new is h = h
+
+-- where no table stands in what is removed by these, none does by all data
+flat_on : (hidden : Cover) (old : Kinds) (c : Change) (new : Kinds) → IsNear hidden c → RemovesFlat c new → RemovesFlat c (beside hidden old new)
+flat_on hidden old (edits.remove at) new is flat = λ s a there. flat s a (shown hidden old new (at ++ s ∷ a) (is.opened at (s ∷ a) (inl refl)) ∙ there)
+flat_on hidden old (edits.set at value) new is flat = absurd flat
+flat_on hidden old (edits.insert at value) new is flat = absurd flat
+flat_on hidden old (edits.rename at to) new is flat = absurd flat
+flat_on hidden old (edits.new_section at) new is flat = absurd flat
+flat_on hidden old (edits.new_element at) new is flat = absurd flat
+
+near_parted : (hidden : Cover) (front : List Change) (c : Change) → AreNear hidden (front ++ c ∷ []) → AreNear hidden front × IsNear hidden c
+near_parted hidden [] c are = (tt, are.0)
+near_parted hidden (d ∷ front) c are = let (others, last) = near_parted hidden front c are.1 in ((are.0, others), last)
+
+-- what the data near the last edit tell of it is so of all data
+pub shows_last : (profile : Profile) (hidden : Cover) (old : Kinds) (cs : List Change) → AreNear hidden cs → (near_first : Kinds)
+    → ((a : Address) → near_first a ≡ near hidden old a) → (front : List Change) (c : Change) → cs ≡ front ++ c ∷ [] → (mid : Kinds) → Lead profile front old mid
+    → (part : Kinds) → Lead profile front near_first part → ShowsEdit c part mid
+shows_last profile hidden old cs are near_first of front c is mid lead part led =
+    let (fronts, last) = near_parted hidden front c (subst (AreNear hidden) is are) in
+    let mid_is : mid ≡ beside hidden old part =
+    fun_ext (one_lead profile front old mid (beside hidden old part) lead (leads_beside profile hidden front old near_first part fronts of led)) in
+    record {
+      flat = λ flat. subst (RemovesFlat c) (sym mid_is) (flat_on hidden old c part last flat);
+      refused = λ may. refused_near hidden old c part last (subst (MayBeRefused c) mid_is may);
+    }
 
 module _ (profile : Profile) (hidden : Cover) (old : Kinds) (cs : List Change) (are : AreNear hidden cs) where
   so : (i : ℕ) (P : Change → Kinds → Type 0) → ((c : Change) (mid : Kinds) → IsNear hidden c → P c mid → P c (beside hidden old mid)) → SoFar profile cs (near hidden old) i P → SoFar profile cs old i P

@@ -16,8 +16,8 @@ use Rattle.toml_edits.specs.Lists.{Lead}
 use Rattle.toml_layout.specs.declared.texts.Texts.{Texts}
 use Rattle.toml_working.specs.declared.working.Tree.{Tree}
 use Rattle.toml_editor.specs.CertifiedLists.{ArePlain}
-use Rattle.toml_editor.specs.LastTexts.{ChangesLines, IsInContainer, WritesLast, standing_text}
-use Rattle.toml_editor.specs.Exact.{FollowAll, HoldsLast, IsAt, MakesAll}
+use Rattle.toml_editor.specs.LastTexts.{ChangesLines, IsOneChange, WritesLast, standing_text}
+use Rattle.toml_editor.specs.Exact.{FollowAll, HoldsLast, IsAt, MakesAll, ShowsEdit}
 use Rattle.toml_layout.specs.declared.layout.Layout.{Layout}
 use Rattle.toml_working.specs.Manners.{Manner, manner_of}
 use Rattle.toml_working.specs.Putting.{manner}
@@ -71,19 +71,23 @@ module _ (profile : Profile) (read : Read) (d : Doc) (before : List ℕ) (tree :
         lines_are_written before d.mark.text read new.slots.items last.lines out writes there
         ∙ ap (λ (m : Piece). m.text ++ joined (lines_parts last.lines)) mark ∙ text_is_spelled last all.after all.at.good.spelled.0
 
-    -- where the last edit changes an array or an inline table in a value, and those before it are plain, it is the text of what that makes of the lines
-    pub last_written : HoldsLast profile read cs tree new → WritesOut before d.mark.text new.slots.items out → WritesLast layout profile before cs out
-    last_written makes writes = (d, spelled, by)
+    -- where the last edit changes an array or an inline table in a value, or removes a table, and those before it are plain, it is the text of what
+    -- that makes of the lines
+    pub last_written : (near : Kinds)
+        → ((front : List Change) (c : Change) → cs ≡ front ++ c ∷ [] → (mid : Kinds) → Lead profile front old mid
+        → (part : Kinds) → Lead profile front near part → ShowsEdit c part mid)
+        → HoldsLast profile read near cs tree new → WritesOut before d.mark.text new.slots.items out → WritesLast layout profile before cs out
+    last_written near shows makes writes = (d, spelled, by)
       where
         by : (front : List Change) (c : Change) → cs ≡ front ++ c ∷ [] → ArePlain profile front (manner_of layout d.lines) before
             → (between : List ℕ) → AreWritten profile front (manner_of layout d.lines) before between
-            → (e : Doc) → SpellsIn profile e between → IsInContainer e.lines c
+            → (e : Doc) → SpellsIn profile e between → IsOneChange e.lines c
             → (ts : List Standing) × ChangesLines layout profile c (standing e.lines) ts × (out ≡ e.mark.text ++ standing_text ts)
         by front c is plain between written e spells there =
             let first = at old facts in
             let (mid, led, none, is_after) = lead_parted profile front c old now (subst (λ es. Lead profile es old now) is lead) in
             let as_tree = subst (λ m. AreWritten profile front m before between) (sym mannered) written in
-            let (ts, stand, changed) = makes front c is before old mid now first led is_after
+            let (ts, stand, changed) = makes front c is before old mid now first led none is_after (shows front c is mid led)
             (subst (λ m. ArePlain profile front m before) (sym mannered) plain) between as_tree e spells there in
             let steps = plain_steps profile front (manner tree) before between old mid first.newline first.good led as_tree in
             let tree_is : steps.0.tree ≡ e = one_tree steps.0.tree e between steps.0.spelled.0 spells.0 in

@@ -43,11 +43,11 @@ use Rattle.toml_editor.proofs.written.ValuesAbove.{IsOver, value_over}
 
 module _ (layout : Layout) (profile : Profile) (before : List ℕ) (cs : List Change) (n : ℕ) (between : List ℕ) (mid : Kinds)
     (so_far : PlainSoFar layout profile before cs n between mid) where
-  abbrev d : Doc
+  abbrev pub d : Doc
   d = so_far.document.1
 
   -- the text written so far is good
-  good : IsGoodText profile between mid
+  pub good : IsGoodText profile between mid
   good =
       let old : IsGoodText profile before so_far.old = record {
         tree = d;

@@ -3,6 +3,7 @@ pub mod AheadNamed
 pub mod AheadPlace
 pub mod AheadTables
 pub mod Alike
+pub mod AnotherElement
 pub mod Around
 pub mod AroundLines
 pub mod Behind
@@ -62,6 +63,7 @@ pub mod HeadersAlone
 pub mod HeadersRenamed
 pub mod HeldArrays
 pub mod HeldElements
+pub mod HeldTables
 pub mod ImpliedHeaders
 pub mod ImpliedPlace
 pub mod ImpliedSplit
@@ -83,6 +85,7 @@ pub mod KeptApart
 pub mod LastBare
 pub mod LastRefused
 pub mod LastLines
+pub mod LinesBelow
 pub mod LoneElements
 pub mod Made
 pub mod Members
@@ -126,8 +129,12 @@ pub mod StandingHas
 pub mod StandingOrder
 pub mod StandingThere
 pub mod Steps
+pub mod TableLines
+pub mod TableSections
 pub mod TablesAgain
 pub mod TablesStay
+pub mod TablesTaken
+pub mod TablesThere
 pub mod Texts
 pub mod Together
 pub mod UnitsAlike

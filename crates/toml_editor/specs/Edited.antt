@@ -1,10 +1,11 @@
 -- What the editor answers.
-use Rattle.std.specs.Prelude.{◌≡◌, ◌⊎◌, ◌↔◌, ◌<◌, ℕ, List, length, take, Some, None, IsSome, slice_get}
+use Rattle.std.specs.Prelude.{◌≡◌, ◌⊎◌, ◌↔◌, ◌<◌, ◌∷◌, ◌++◌, ℕ, List, length, take, Some, None, IsSome, slice_get}
 use Rattle.toml_text.specs.Limit.{IsText, max_len}
 use Rattle.toml_text.specs.Source.{IsFaultOf}
 use Rattle.toml_tree.specs.Profiles.{IsOfProfile}
 use Rattle.toml_tree.specs.Document.{Refuses}
 use Rattle.toml_tree.specs.declared.profile.Profile.{Profile}
+use Rattle.toml_names.specs.declared.model.address.Step.{Step}
 use Rattle.toml_names.specs.model.Addresses.{Address, element}
 use Rattle.toml_names.specs.model.Data.{Kinds}
 use Rattle.toml_names.specs.model.Documents.{IsDocumentIn}
@@ -73,6 +74,11 @@ MayBeSpread _ kinds = ⊥
 abbrev pub TakesLastElement : Change → Kinds → Type 0
 TakesLastElement (remove at) kinds = (q : Address) × (at ≡ element q 0) × IsSome (kinds at) × (kinds (element q 1) ≡ None)
 TakesLastElement _ kinds = ⊥
+
+-- no table stands in what the edit removes
+abbrev pub RemovesFlat : Change → Kinds → Type 0
+RemovesFlat (remove p) kinds = (s : Step) (a : Address) → ¬ (kinds (p ++ s ∷ a) ≡ Some a_table)
+RemovesFlat _ kinds = ⊥
 
 -- by the data an edit that is not made may be refused for it: its place is spread, or it takes a last element
 abbrev pub MayBeRefused : Change → Kinds → Type 0

@@ -17,13 +17,13 @@ use Rattle.toml_edits.specs.After.{IsAfter}
 use Rattle.toml_edits.specs.Edits.{Change, insert, rename, set, remove, new_section, new_element}
 use Rattle.toml_edits.specs.Faults.{IsFault}
 use Rattle.toml_edits.specs.Lists.{Lead}
-use Rattle.toml_editor.specs.Edited.{MayBeRefused}
+use Rattle.toml_editor.specs.Edited.{MayBeRefused, RemovesFlat}
 use Rattle.toml_editor.specs.declared.fault.EditorFault.{EditorFault}
 use Rattle.toml_editor.specs.declared.fault.EditorFault.TheVariants.{Edit, LastElement, Spread}
 use Rattle.toml_working.specs.declared.working.Tree.{Tree}
 use Rattle.toml_working.specs.Becoming.{TreeRenames}
 use Rattle.toml_editor.specs.CertifiedLists.{ArePlain}
-use Rattle.toml_editor.specs.LastTexts.{ChangesLines, IsInContainer}
+use Rattle.toml_editor.specs.LastTexts.{ChangesLines, IsOneChange}
 use Rattle.toml_layout.specs.declared.tree.Value.{Value as OpenValue}
 use Rattle.toml_layout.specs.Holding.{PutsHeld}
 use Rattle.toml_layout.specs.declared.tree.Brackets.{Brackets}
@@ -36,6 +36,7 @@ use Rattle.toml_editor.specs.PlainTexts.{IsPlainOrHeld, IsPlainOn, IsRefusedIn}
 use Rattle.toml_working.specs.Putting.{TreeInserts, manner}
 use Rattle.toml_working.specs.InTables.{TreePutsIn}
 use Rattle.toml_working.specs.RemovingIn.{RemovesLines, TakesElement}
+use Rattle.toml_working.specs.RemovingTables.{RemovesTable}
 use Rattle.toml_working.specs.Spellings.{AreSteps}
 use Rattle.toml_working.specs.Standing.{AreOrdered, Read, Standing, holds, standing}
 use Rattle.toml_working.specs.Stands.{KeepsRest, KeepsTexts, Stands, TreeSets}
@@ -124,19 +125,20 @@ pub record WritesRename (read : Read) (p : Address) (to : List ℕ) (old new : T
 -- an `insert` of a name in a table that is no value and lies in none puts its line in, a `remove` takes out the line of a value, or makes it
 -- the empty table right above where that would go with it, a `rename` gives lines the new name, a `section` and an `element` put their header
 -- line in. Where an array or an inline table in the value of a line holds it, an `insert` and a `remove` change that. A `remove` of an element of
--- an array of tables tells whether it is made, and an `insert` of one is not.
-abbrev pub WritesEdit : Profile → Read → Change → Tree → Tree → Bool → Type 0
-WritesEdit profile read (set p text) old new done = NoneIsGone old.elements → KeepsRest old new × WritesSet profile read p text old new done
-WritesEdit profile read (insert p text) old new done = NoneIsGone old.elements
+-- an array of tables tells whether it is made, and an `insert` of one is not. A `remove` of what is no line's value and in none takes out its lines
+-- and those below, where these stand together; `flat` is told it where no table stands in it.
+abbrev pub WritesEdit : Profile → Read → Bool → Change → Tree → Tree → Bool → Type 0
+WritesEdit profile read flat (set p text) old new done = NoneIsGone old.elements → KeepsRest old new × WritesSet profile read p text old new done
+WritesEdit profile read flat (insert p text) old new done = NoneIsGone old.elements
     → (steps : List (String Global)) × KeepsRest old new × AreSteps p steps × WritesInsert profile read p text steps old new
     × WritesInside profile read p text steps old new done × WritesBelow profile read p text steps old new
     × WritesNoElement profile read p text old done
-WritesEdit profile read (remove p) old new done = NoneIsGone old.elements
-    → RemovesLines p read old new × TakesFromValue p read old new done × TakesElement p read old done
-WritesEdit profile read (rename p to) old new done = NoneIsGone old.elements → WritesRename read p to old new
-WritesEdit profile read (new_section p) old new done = NoneIsGone old.elements
+WritesEdit profile read flat (remove p) old new done = NoneIsGone old.elements
+    → RemovesLines p read old new × TakesFromValue p read old new done × TakesElement p read old done × RemovesTable p flat read old new done
+WritesEdit profile read flat (rename p to) old new done = NoneIsGone old.elements → WritesRename read p to old new
+WritesEdit profile read flat (new_section p) old new done = NoneIsGone old.elements
     → (steps : List (String Global)) × AreSteps p steps × KeepsTexts old new × WritesHeader One read p steps old new done
-WritesEdit profile read (new_element p) old new done = NoneIsGone old.elements
+WritesEdit profile read flat (new_element p) old new done = NoneIsGone old.elements
     → (steps : List (String Global)) × AreSteps p steps × KeepsTexts old new × WritesHeader Two read p steps old new done
 
 -- the tree stands for no text on which the edit, without a fault, is plain, or held by an array or an inline table in a value
@@ -166,31 +168,37 @@ PassesAt profile read cs near tree k = (part : Kinds) × Lead profile (take k cs
 abbrev pub PassesAll : Profile → Read → List Change → Kinds → ℕ → Tree → Type 0
 PassesAll profile read cs near n tree = (k : ℕ) → k < n → PassesAt profile read cs near tree k
 
--- of an edit that changes an array or an inline table in the value of a line: the tree then stands for what that makes of the lines
-abbrev pub HoldsOne : Profile → Read → Change → Tree → Tree → Type 0
-HoldsOne profile read c old new = (text : List ℕ) (kinds now : Kinds) → (at : IsAt profile read old text kinds) → IsAfter profile c kinds now
-    → IsInContainer at.good.tree.lines c
+-- what the data near the edit tell of it is so by other data
+pub record ShowsEdit (c : Change) (near kinds : Kinds) : Type 0 where
+  pub flat : RemovesFlat c near → RemovesFlat c kinds
+  pub refused : MayBeRefused c kinds → MayBeRefused c near
+
+-- of an edit that changes an array or an inline table in the value of a line, or removes a table: the tree then stands for what that makes of the lines
+abbrev pub HoldsOne : Profile → Read → Kinds → Change → Tree → Tree → Type 0
+HoldsOne profile read near c old new = (text : List ℕ) (kinds now : Kinds) → (at : IsAt profile read old text kinds) → IsFault profile c kinds None
+    → IsAfter profile c kinds now → ShowsEdit c near kinds → IsOneChange at.good.tree.lines c
     → (ts : List Standing) × Stands (text_of old.texts.source) read new.slots.items ts
     × ChangesLines (manner old).layout profile c (standing at.good.tree.lines) ts
 
 -- the same of the last edit of a list, where those before it are plain
-abbrev pub HoldsLast : Profile → Read → List Change → Tree → Tree → Type 0
-HoldsLast profile read cs old new = (front : List Change) (c : Change) → cs ≡ front ++ c ∷ [] → (text : List ℕ) (kinds mid now : Kinds)
-    → IsAt profile read old text kinds → Lead profile front kinds mid → IsAfter profile c mid now → ArePlain profile front (manner old) text
-    → (between : List ℕ) → AreWritten profile front (manner old) text between → (e : Doc) → SpellsIn profile e between → IsInContainer e.lines c
+abbrev pub HoldsLast : Profile → Read → Kinds → List Change → Tree → Tree → Type 0
+HoldsLast profile read near cs old new = (front : List Change) (c : Change) → cs ≡ front ++ c ∷ [] → (text : List ℕ) (kinds mid now : Kinds)
+    → IsAt profile read old text kinds → Lead profile front kinds mid → IsFault profile c mid None → IsAfter profile c mid now
+    → ((part : Kinds) → Lead profile front near part → ShowsEdit c part mid) → ArePlain profile front (manner old) text
+    → (between : List ℕ) → AreWritten profile front (manner old) text between → (e : Doc) → SpellsIn profile e between → IsOneChange e.lines c
     → (ts : List Standing) × Stands (text_of old.texts.source) read new.slots.items ts
     × ChangesLines (manner old).layout profile c (standing e.lines) ts
 
 -- Of an edit that is made: what it makes where it is plain, and that it is not refused;
 pub record DoneOne (profile : Profile) (read : Read) (near : Kinds) (c : Change) (old new : Tree) : Type 0 where
   pub makes : MakesOne profile read c old new
-  pub holds : HoldsOne profile read c old new
+  pub holds : HoldsOne profile read near c old new
   pub passes : PassesOne profile read near c old
 
 -- of edits that are made one after the other.
 pub record DoneAll (profile : Profile) (read : Read) (near : Kinds) (cs : List Change) (old new : Tree) : Type 0 where
   pub makes : MakesAll profile read cs old new
-  pub holds : HoldsLast profile read cs old new
+  pub holds : HoldsLast profile read near cs old new
   pub passes : PassesAll profile read cs near (length cs) old
 
 -- the edit with this number, where those before it are plain, is neither of these on the text that they write

@@ -1,5 +1,5 @@
--- What is written where, behind plain edits, the last one changes an array or an inline table in the value of a line.
-use Rattle.std.specs.Prelude.{◌≡◌, true, ℕ, List, [], ◌∷◌, ◌++◌, map}
+-- What is written where, behind plain edits, the last one changes an array or an inline table in the value of a line, or removes a table.
+use Rattle.std.specs.Prelude.{◌≡◌, ◌⊎◌, true, false, ℕ, List, [], ◌∷◌, ◌++◌, map}
 use Rattle.std.specs.List.{list_any}
 use Rattle.std.specs.declared.alloc.Global.{Global}
 use Rattle.std.specs.declared.string.String.{String}
@@ -20,6 +20,8 @@ use Rattle.toml_layout.specs.TreeOutlines.{value_outline}
 use Rattle.toml_working.specs.HeldLines.{SetsEach, has_container_at}
 use Rattle.toml_working.specs.Standing.{AreOrdered, Standing, holds, standing}
 use Rattle.toml_working.specs.Manners.{manner_of}
+use Rattle.toml_working.specs.Premises.{IsInNoValue}
+use Rattle.toml_working.specs.RemovingTables.{remove_below}
 use Rattle.toml_editor.specs.CertifiedLists.{ArePlain}
 use Rattle.toml_working.specs.Spellings.{AreSteps}
 use Rattle.toml_editor.specs.Steps.{AreWritten}
@@ -38,10 +40,15 @@ pub record PutsValue (layout : Layout) (profile : Profile) (p : Address) (text :
 abbrev pub TakesValue : Layout → Address → List Standing → List Standing → Type 0
 TakesValue layout p old now = (list_any (has_container_at p) old ≡ true) × ChangesHolder SetsEach (TakesHeld layout) p old now
 
+-- a table, an array of tables or an element of one, which is no line's value and in none, goes with all lines there and below, and nothing else
+-- has changed but that the table right above may come to be empty
+abbrev pub TakesTable : Address → List Standing → List Standing → Type 0
+TakesTable p old now = (list_any (holds p) old ≡ false) × (now ≡ remove_below p old)
+
 -- what the edit makes of lines
 abbrev pub ChangesLines : Layout → Profile → Change → List Standing → List Standing → Type 0
 ChangesLines layout profile (insert p text) old now = PutsValue layout profile p text old now
-ChangesLines layout profile (remove p) old now = TakesValue layout p old now
+ChangesLines layout profile (remove p) old now = TakesValue layout p old now ⊎ TakesTable p old now
 ChangesLines layout profile _ old now = ⊥
 
 -- Law: what such an edit makes of lines that are as the table rules have them is one thing.
@@ -59,21 +66,22 @@ abbrev pub IsPutThere : List Line → Address → Step → Type 0
 IsPutThere lines q (Name name) = HasContainerAt lines (child q name)
 IsPutThere lines q (Index i) = list_any (holds q) (standing lines) ≡ true
 
--- the edit puts an element or a pair into an array or an inline table in the value of a line, or takes one out
-abbrev pub IsInContainer : List Line → Change → Type 0
-IsInContainer lines (insert p text) = (q : Address) × (last : Step) × (p ≡ q ++ last ∷ []) × (¬ (q ≡ [])) × IsPutThere lines q last
-IsInContainer lines (remove p) = HasContainerAt lines p
-IsInContainer lines _ = ⊥
+-- the edit puts an element or a pair into an array or an inline table in the value of a line, or takes one out, or removes what is no line's
+-- value and in none
+abbrev pub IsOneChange : List Line → Change → Type 0
+IsOneChange lines (insert p text) = (q : Address) × (last : Step) × (p ≡ q ++ last ∷ []) × (¬ (q ≡ [])) × IsPutThere lines q last
+IsOneChange lines (remove p) = HasContainerAt lines p ⊎ IsInNoValue lines p
+IsOneChange lines _ = ⊥
 
 -- the text of what stands on lines
 abbrev pub standing_text : List Standing → List ℕ
 standing_text ss = lines_outlined (map (λ (s : Standing). s.outline) ss)
 
--- Where the edits before the last one are plain, and the last one changes an array or an inline table in a value of the text that they write,
--- the text is the mark and what that makes of the lines.
+-- Where the edits before the last one are plain, and the last one changes an array or an inline table in a value of the text that they write, or
+-- removes a table, an array of tables or an element of one, the text is the mark and what that makes of the lines.
 abbrev pub WritesLast : Layout → Profile → List ℕ → List Change → List ℕ → Type 0
 WritesLast layout profile before cs after = OfTree before (λ d. (front : List Change) (c : Change) → cs ≡ front ++ c ∷ []
     → ArePlain profile front (manner_of layout d.lines) before
     → (between : List ℕ) → AreWritten profile front (manner_of layout d.lines) before between
-    → (e : Doc) → SpellsIn profile e between → IsInContainer e.lines c
+    → (e : Doc) → SpellsIn profile e between → IsOneChange e.lines c
     → (now : List Standing) × ChangesLines layout profile c (standing e.lines) now × (after ≡ e.mark.text ++ standing_text now))

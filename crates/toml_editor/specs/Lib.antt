@@ -28,5 +28,6 @@ pub mod StandingLaws
 pub mod PlainTexts
 pub mod PlainAnswers
 pub mod LastTexts
+pub mod EachEdit
 pub mod Exact
 pub mod Made

@@ -4,6 +4,7 @@ ghost use Rattle.toml_editor.specs.CarriedUnits.{PlainIsCarried};
 ghost use Rattle.toml_editor.specs.CarriedLists.{FirstBlankNeedsNewline, ListIsCarried};
 ghost use Rattle.toml_editor.specs.CertifiedLists.{PartnersCertify, OuterAreNamed, OuterPartnersCertify, PlainListIsCertified};
 ghost use Rattle.toml_editor.specs.ChangedUnits.{SetUnits};
+ghost use Rattle.toml_editor.specs.EachEdit.{EachEditIsTold, LastHasOneText};
 ghost use Rattle.toml_editor.specs.PlainAnswers.{FirstFaultIsAnswered, FirstRefusedIsAnswered, LongIsAnswered, OnlyRefusedIsTold, PlainIsAnswered};
 ghost use Rattle.toml_editor.specs.LastTexts.{OneChange};
 ghost use Rattle.toml_editor.specs.HeaderLaws.{ElementIsLaidOut, ElementNames, ElementUnits, DocumentsAreReady, SectionIsLaidOut, SectionNames, SectionUnits, ValueIsPlace};
@@ -265,8 +266,15 @@ pub fn written_out()
     ensures text { TextIsWritten }
 {}
 
-/// What an edit makes that changes an array or an inline table in the value of a line is one thing in a layout, of lines that are as the
-/// table rules have them: so it has one text.
+/// What an edit makes that changes an array or an inline table in the value of a line, or removes a table, is one thing in a layout, of lines
+/// that are as the table rules have them: so it has one text.
 pub fn one_change()
     ensures { OneChange }
+{}
+
+/// An edit without a fault on a good text is plain, makes such a change, or is refused. So where all edits before the last one are plain, there
+/// is one text that can be answered, and there is one for each list of a single edit.
+pub fn each_edit()
+    ensures told { EachEditIsTold }
+    ensures text { LastHasOneText }
 {}

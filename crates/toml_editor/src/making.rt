@@ -3,7 +3,7 @@ ghost use Rattle.std.specs.Prelude.{◌≡◌, IfErr, IfOk, IsTrue, OnOk, false,
 ghost use Rattle.toml_scalar.specs.Spelling.{spelled};
 ghost use Rattle.toml_edits.specs.Drafts.{IsReadyAt, drafted};
 ghost use Rattle.toml_edits.specs.Edits.{change, place as place_of};
-ghost use Rattle.toml_editor.specs.Edited.{TakesLastElement, MayBeSpread};
+ghost use Rattle.toml_editor.specs.Edited.{RemovesFlat, TakesLastElement, MayBeSpread};
 ghost use Rattle.toml_editor.specs.Exact.{WritesBelow, WritesEdit, WritesHeader, WritesInsert, WritesInside, WritesNoElement, WritesRename, WritesSet};
 ghost use Rattle.toml_editor.specs.Made.{MakesEdit, MakesEdits, RefusesEdit, RefusesEdits};
 ghost use Rattle.toml_editor.specs.Making.{HasNames, IsMade, IsMany, TellsRow};
@@ -142,7 +142,7 @@ fn write_edit<'x>(
 ) -> Result<bool, AllocError>
     requires names { HasNames read }
     requires spelled { IsSpelled (change edit.now) spelled.now }
-    ensures { IfOk result (WritesEdit read.entry.profile (read_of read.entry.before) (change edit.now) tree.old tree.new) }
+    ensures { IfOk result (WritesEdit read.entry.profile (read_of read.entry.before) flat (change edit.now) tree.old tree.new) }
 {
     let at = tree.elements.uncut(alloc, place(edit))?;
     match edit {
@@ -308,7 +308,10 @@ fn is_only_element(draft: &Draft, edit: &Edit) -> bool
 }
 
 /// Whether the edit removes a table in which no table stands.
-fn removes_flat(draft: &Draft, edit: &Edit) -> bool {
+fn removes_flat(draft: &Draft, edit: &Edit) -> bool
+    requires { IsReadyAt draft.now (place_of (change edit.now)) }
+    ensures { IsTrue result → RemovesFlat (change edit.now) (drafted draft.now) }
+{
     match edit {
         Edit::Remove { at } => is_flat(draft.found(at)),
         _ => false,

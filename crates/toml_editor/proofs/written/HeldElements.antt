@@ -51,7 +51,7 @@ drop_names [] rest = refl
 drop_names (n ∷ k) rest = drop_names k rest
 
 -- of two keys that lead to the same steps one is a beginning of the other
-one_begins : (k l : Key) (steps : Address) → leads k steps ≡ true → leads l steps ≡ true → (begins_key k l ≡ true) ⊎ (begins_key l k ≡ true)
+pub one_begins : (k l : Key) (steps : Address) → leads k steps ≡ true → leads l steps ≡ true → (begins_key k l ≡ true) ⊎ (begins_key l k ≡ true)
 one_begins [] l steps h j = inl refl
 one_begins (m ∷ k) [] steps h j = inr refl
 one_begins (m ∷ k) (n ∷ l) [] h j = absurd (true≢false (sym h))
@@ -66,7 +66,7 @@ one_begins (m ∷ k) (n ∷ l) (s ∷ steps) h j =
     ]
 
 -- of keys that are apart only one leads there
-pub led_by_one : (k : Key) (ks : List Key) (steps : Address) → All (λ l. (begins_key k l ≡ false) × (begins_key l k ≡ false)) ks
+led_by_one : (k : Key) (ks : List Key) (steps : Address) → All (λ l. (begins_key k l ≡ false) × (begins_key l k ≡ false)) ks
     → Has (λ l. leads l steps ≡ true) ks → leads k steps ≡ false
 led_by_one k ks steps apart led = by (leads k steps) refl
   where

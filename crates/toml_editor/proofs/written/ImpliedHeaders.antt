@@ -43,7 +43,7 @@ child_is (s ∷ q) (t ∷ a) is =
     by : s ≡ t → (n : List ℕ) × (rest : Address) × (a ≡ q ++ Name n ∷ rest) → (n : List ℕ) × (rest : Address) × (t ∷ a ≡ s ∷ q ++ Name n ∷ rest)
     by e (n, rest, at) = (n, rest, ap (λ r. t ∷ r) at ∙ ap (λ u. u ∷ (q ++ Name n ∷ rest)) (sym e))
 
-child_there : (q rest : Address) (n : List ℕ) → is_child_below q (q ++ Name n ∷ rest) ≡ true
+pub child_there : (q rest : Address) (n : List ℕ) → is_child_below q (q ++ Name n ∷ rest) ≡ true
 child_there [] rest n = refl
 child_there (s ∷ q) rest n = ap₂ (λ a b. a && b) (same_step-self s) (child_there q rest n)
 

@@ -34,7 +34,7 @@ abbrev pub IsNamedAt : Address → Named → Type 0
 IsNamedAt at m = m.address ≡ at
 
 -- where a name stands below an address, a table is named there
-abbrev NamesAreInTables : List Named → Type 0
+abbrev pub NamesAreInTables : List Named → Type 0
 NamesAreInTables ms = (u : Address) (n : List ℕ) → Has (IsNamedAt (child u n)) ms → Has (IsKindAt u a_table) ms
 
 -- the first kind at an address is named there
@@ -79,7 +79,7 @@ named_front (l ∷ ls) xs n =
     (named_by xs n l.expr ++ rest.0, rest.1 ∙ append_assoc xs (named_by xs n l.expr) rest.0)
 
 -- so is all that lines name
-line_names : (lines : List Line) → KeepsRules (named lines) → NamesAreInTables (named lines)
+pub line_names : (lines : List Line) → KeepsRules (named lines) → NamesAreInTables (named lines)
 line_names lines keeps =
     let front = named_front lines (root ∷ []) 0 in
     subst NamesAreInTables (sym front.1) (all_names front.0 (root ∷ []) first (subst Joined front.1 (lines_join lines keeps)))

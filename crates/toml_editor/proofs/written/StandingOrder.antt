@@ -135,7 +135,7 @@ all_distinct (l ∷ ls) xs n alone =
 
 -- ---- none stands below the value of a line
 
-any_value : Value
+pub any_value : Value
 any_value = Inline (fresh []) (ClosePairs (record { lines = []; ws = fresh [] }))
 
 module _ (p : Address) where

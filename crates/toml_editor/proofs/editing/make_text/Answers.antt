@@ -13,7 +13,7 @@ use Rattle.toml_layout.specs.declared.texts.Texts.{Texts}
 use Rattle.toml_working.specs.Starting.{read_of}
 use Rattle.toml_editor.proofs.Answered.{if_ok_two}
 use Rattle.toml_editor.proofs.Judgements.{any_tells}
-use Rattle.toml_editor.proofs.NearFaults.{any_of_all, has_data}
+use Rattle.toml_editor.proofs.NearFaults.{any_of_all, has_data, shows_last}
 use Rattle.toml_editor.proofs.SourceKept.{as_read}
 use Rattle.toml_editor.proofs.PassedRefused.{none_is_refused, stops_told}
 use Rattle.toml_editor.proofs.ReadDocuments.{is_document, is_read_of, spelled, tree}
@@ -72,6 +72,7 @@ returns-in-Ok-make_all-clause-made c =
           last_written profile (read_of c.args.read.before) d text c.in-Ok.tree document
           spells opened.stands (ap (λ (t : Texts). text_of t.source) opened.texts_are) opened.elements c.args.layout mannered cs old
           (beside (is_hidden c.args.touched.now) old new) c.make_all.new.tree (string_bytes made.text) facts leads
+          part (shows_last profile (is_hidden c.args.touched.now) old cs c.requires.touched part near)
           c.in-Ok-make_all.ensures.made.done.holds written;
       passed =
           none_is_refused profile (read_of c.args.read.before) d text c.in-Ok.tree document

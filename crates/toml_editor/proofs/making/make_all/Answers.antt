@@ -26,7 +26,7 @@ loop-index-init c =
       (λ a. refl),
       none_made profile read tree,
       none_passed profile read (map change c.args.edits.now) (drafted c.args.draft.now) tree,
-      none_last profile read tree,
+      none_last profile read (drafted c.args.draft.now) tree,
     )
 
 pub loop-index-preserved : goal.loop-index-preserved
@@ -47,8 +47,8 @@ loop-index-preserved c =
       more_passed profile read (map change edits) near part here.index (change edit) old here.tree here.invariant.2
           (subst (λ ds. Lead profile ds near part) taken here.invariant.0) (subst (λ ds. MakesAll profile read ds old here.tree) taken here.invariant.1)
           (get_map edits here.index edit (omega arith) c.index-edits-index.is) c.in_default.ensures.made.done.passes,
-      subst (λ ds. HoldsLast profile read ds old c.make.new.tree) (sym (taken_on edits here.index edit (omega arith) c.index-edits-index.is))
-          (last_made profile read made (change edit) old here.tree c.make.new.tree here.invariant.1 c.in_default.ensures.made.done.holds),
+      subst (λ ds. HoldsLast profile read near ds old c.make.new.tree) (sym (taken_on edits here.index edit (omega arith) c.index-edits-index.is))
+          (last_made profile read made (change edit) near part old here.tree c.make.new.tree here.invariant.0 here.invariant.1 c.in_default.ensures.made.done.holds),
     )
 
 pub returns-in-Err-clause-told : goal.returns-in-Err-clause-told
@@ -79,7 +79,8 @@ returns-clause-made c =
       lead = subst (λ es. Lead profile (map change es) (drafted c.args.draft.now) (drafted here.draft)) all here.invariant.0;
       done = record {
         makes = subst (λ es. MakesAll profile (read_of c.args.read.before) (map change es) c.args.tree.now here.tree) all here.invariant.1;
-        holds = subst (λ es. HoldsLast profile (read_of c.args.read.before) (map change es) c.args.tree.now here.tree) all here.invariant.3;
+        holds =
+            subst (λ es. HoldsLast profile (read_of c.args.read.before) (drafted c.args.draft.now) (map change es) c.args.tree.now here.tree) all here.invariant.3;
         passes = λ k low. here.invariant.2 k (omega (arith, low, length-map edits change));
       };
     }

@@ -11,4 +11,4 @@ invariant-loop-index l =
     Lead l.read.profile (map change (take l.index l.edits)) (drafted l.initial.draft) (drafted l.draft)
     × MakesAll l.read.profile (read_of l.read.before) (map change (take l.index l.edits)) l.initial.tree l.tree
     × PassesAll l.read.profile (read_of l.read.before) (map change l.edits) (drafted l.initial.draft) l.index l.initial.tree
-    × HoldsLast l.read.profile (read_of l.read.before) (map change (take l.index l.edits)) l.initial.tree l.tree
+    × HoldsLast l.read.profile (read_of l.read.before) (drafted l.initial.draft) (map change (take l.index l.edits)) l.initial.tree l.tree

@@ -5,6 +5,7 @@ use Rattle.toml_layout.specs.declared.tree.Brackets.TheVariants.{One, Two}
 use Rattle.toml_editor.specs.Exact.{WritesBelow, WritesHeader, WritesInsert, WritesInside, WritesNoElement, WritesSet}
 use Rattle.toml_working.specs.HeldLines.{TakesFromValue}
 use Rattle.toml_working.specs.RemovingIn.{RemovesLines, TakesElement}
+use Rattle.toml_working.specs.RemovingTables.{RemovesTable}
 use Rattle.toml_editor.specs.SpelledEdits.{IsSpelled}
 use Rattle.toml_working.specs.Starting.{read_of}
 use Rattle.toml_editor.proofs.Answered.{if_ok_both, if_ok_two, if_ok_with}
@@ -15,7 +16,7 @@ pub returns-in-Set : goal.returns-in-Set
 returns-in-Set c =
     let read = read_of c.args.read.before in
     let result = c.write_set.result in
-    edit_written result c.args.read.profile read c.args.tree.now c.write_set.new.tree c.in_ok-at.at _ _ c.in-Set.is
+    edit_written result c.args.read.profile read c.args.flat c.args.tree.now c.write_set.new.tree c.in_ok-at.at _ _ c.in-Set.is
     (λ whole. c.in_ok-at.ensures whole ∙ c.place.ensures)
     (λ at. IfOk-weaker result _ _
     (λ done made whole. (
@@ -28,15 +29,17 @@ returns-in-Set c =
 pub returns-in-Remove : goal.returns-in-Remove
 returns-in-Remove c =
     let read = read_of c.args.read.before in
-    edit_written c.remove.result c.args.read.profile read c.args.tree.now c.remove.new.self c.in_ok-at.at _ _ c.in-Remove.is
+    edit_written c.remove.result c.args.read.profile read c.args.flat c.args.tree.now c.remove.new.self c.in_ok-at.at _ _ c.in-Remove.is
     (λ whole. c.in_ok-at.ensures whole ∙ c.place.ensures)
     (λ at. if_ok_two _ _ _ c.remove.result
     (λ done made taken whole. (
       subst (λ a. RemovesLines a read c.args.tree.now c.remove.new.self) (at whole) made.0,
       subst (λ a. TakesFromValue a read c.args.tree.now c.remove.new.self done) (at whole) made.1,
-      subst (λ a. TakesElement a read c.args.tree.now done) (at whole) taken,
+      subst (λ a. TakesElement a read c.args.tree.now done) (at whole) taken.0,
+      subst (λ a. RemovesTable a c.args.flat read c.args.tree.now c.remove.new.self done) (at whole) taken.1,
     ))
-    (if_ok_with _ _ c.remove.result c.remove.ensures.line c.remove.ensures.value) c.remove.ensures.element)
+    (if_ok_with _ _ c.remove.result c.remove.ensures.line c.remove.ensures.value)
+    (if_ok_both _ _ c.remove.result c.remove.ensures.element c.remove.ensures.table))
 
 pub returns-in-Insert : goal.returns-in-Insert
 returns-in-Insert c =
@@ -47,7 +50,7 @@ returns-in-Insert c =
     let result = c.write_insert.result in
     let steps = c.args.spelled.now.steps.items in
     let spelled = subst (λ e. IsSpelled (change e) c.args.spelled.now) c.in-Insert.is c.requires.spelled in
-    edit_written result profile read old new c.in_ok-at.at _ _ c.in-Insert.is (λ whole. c.in_ok-at.ensures whole ∙ c.place.ensures)
+    edit_written result profile read c.args.flat old new c.in_ok-at.at _ _ c.in-Insert.is (λ whole. c.in_ok-at.ensures whole ∙ c.place.ensures)
     (λ at. IfOk-weaker result _ _
     (λ done made whole. (
       steps,
@@ -73,7 +76,7 @@ returns-in-Section c =
     let result = c.write_header.result in
     let steps = c.args.spelled.now.steps.items in
     let spelled = subst (λ e. IsSpelled (change e) c.args.spelled.now) c.in-Section.is c.requires.spelled in
-    edit_written result c.args.read.profile read old new c.in_ok-at.at _ _ c.in-Section.is (λ whole. c.in_ok-at.ensures whole ∙ c.place.ensures)
+    edit_written result c.args.read.profile read c.args.flat old new c.in_ok-at.at _ _ c.in-Section.is (λ whole. c.in_ok-at.ensures whole ∙ c.place.ensures)
     (λ at. IfOk-weaker result _ _
     (λ done made whole. (steps, spelled, made.0, subst (λ a. WritesHeader One read a steps old new done) (at whole) made.1))
     (if_ok_with _ _ result c.write_header.ensures.rest c.write_header.ensures.header))
@@ -86,7 +89,7 @@ returns c =
     let result = c.write_header-in-Element.result in
     let steps = c.args.spelled.now.steps.items in
     let spelled = subst (λ e. IsSpelled (change e) c.args.spelled.now) c.in-Element.is c.requires.spelled in
-    edit_written result c.args.read.profile read old new c.in_ok-at.at _ _ c.in-Element.is (λ whole. c.in_ok-at.ensures whole ∙ c.place.ensures)
+    edit_written result c.args.read.profile read c.args.flat old new c.in_ok-at.at _ _ c.in-Element.is (λ whole. c.in_ok-at.ensures whole ∙ c.place.ensures)
     (λ at. IfOk-weaker result _ _
     (λ done made whole. (steps, spelled, made.0, subst (λ a. WritesHeader Two read a steps old new done) (at whole) made.1))
     (if_ok_with _ _ result c.write_header-in-Element.ensures.rest c.write_header-in-Element.ensures.header))

@@ -1,0 +1,26 @@
+-- What an edit without a fault is.
+use Rattle.std.specs.Prelude.{◌≡◌, ◌⊎◌, ◌∷◌, ◌++◌, List, [], ℕ, None, length}
+use Rattle.toml_tree.specs.declared.profile.Profile.{Profile}
+use Rattle.toml_names.specs.model.Data.{Kinds}
+use Rattle.toml_edits.specs.Edits.{Change}
+use Rattle.toml_edits.specs.Faults.{IsFault}
+use Rattle.toml_layout.specs.declared.layout.Layout.{Layout}
+use Rattle.toml_editor.specs.Edited.{IsEditedWith}
+use Rattle.toml_editor.specs.LastTexts.{IsOneChange}
+use Rattle.toml_editor.specs.PlainAnswers.{PlainSoFar}
+use Rattle.toml_editor.specs.PlainTexts.{IsRefusedIn}
+use Rattle.toml_editor.specs.Steps.{IsGoodText, IsPlain}
+
+-- Law: on a good text it is plain, or makes one change of which `WritesLast` tells the text, or is refused. That none of these holds is
+-- impossible.
+abbrev pub EachEditIsTold : Type 0
+EachEditIsTold = (profile : Profile) (c : Change) (text : List ℕ) (kinds : Kinds) (good : IsGoodText profile text kinds) → IsFault profile c kinds None
+    → ¬ ¬ (IsPlain good.tree.lines c ⊎ (IsOneChange good.tree.lines c ⊎ IsRefusedIn profile text c))
+
+-- Law: where the edits before the last one have no fault on a document and are plain, and the last one has none, two texts of which the editor's
+-- contract holds are the same.
+abbrev pub LastHasOneText : Type 0
+LastHasOneText = (layout : Layout) (profile : Profile) (before : List ℕ) (front : List Change) (c : Change) (between : List ℕ) (mid : Kinds)
+    → PlainSoFar layout profile before (front ++ c ∷ []) (length front) between mid → IsFault profile c mid None
+    → (one two : List ℕ) (ps qs : List (ℕ × ℕ)) → IsEditedWith layout profile before (front ++ c ∷ []) one ps
+    → IsEditedWith layout profile before (front ++ c ∷ []) two qs → one ≡ two
