@@ -1,5 +1,5 @@
 -- All lines at an address and below it are taken out, slot by slot.
-use Rattle.std.proofs.Common.{◌≡◌, ◌∙◌, inl, inr, ℕ, zero, suc, ◌+◌, ◌<◌, ◌≤◌, Bool, true, false, cond, ◌&&◌, ◌||◌, List, [], ◌∷◌, ◌++◌, length, get_or, set, take, drop, Option, Some, None, refl, ap, ap₂, sym, subst, arith, append_assoc, append-nil, length-set, true≢false}
+use Rattle.std.proofs.Common.{◌≡◌, ◌∙◌, inl, inr, ℕ, zero, suc, ◌+◌, ◌<◌, Bool, true, false, cond, ◌&&◌, ◌||◌, List, [], ◌∷◌, ◌++◌, length, get_or, set, take, drop, Option, Some, None, refl, ap, ap₂, sym, subst, arith, append_assoc, append-nil, length-set, true≢false}
 use Rattle.std.specs.Prelude.{not, option_map, slice_get}
 use Rattle.std.specs.List.{list_any}
 use Rattle.std.proofs.Math.Bool.{or-false}
@@ -198,9 +198,9 @@ module _ (texts : Texts) (read : Read) (p q : Address) (stays : Bool) where
       (ended p flat met A X R ss all h.meets section later end)
 
 -- a slot without such a line stays
-pub slot_stays : (texts : Texts) (read : Read) (p q : Address) (stays : Bool) (slot : Slot) → list_any (is_below p) (slot_standing read slot) ≡ false
+pub slot_without : (texts : Texts) (read : Read) (p q : Address) (stays : Bool) (slot : Slot) → list_any (is_below p) (slot_standing read slot) ≡ false
     → LeavesSlot texts read p q stays slot slot × StaysBehindSlot texts read p q stays stays slot
-slot_stays texts read p q stays slot none =
+slot_without texts read p q stays slot none =
     let (same, stood) = none_go p q stays (slot_standing read slot) none in
     ((λ kept. (kept, sym same)), (λ kept. sym stood))
 

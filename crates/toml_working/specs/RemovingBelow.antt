@@ -3,7 +3,6 @@ use Rattle.std.specs.Prelude.{◌≡◌, ◌&&◌, ◌||◌, ◌⊎◌, Bool, tr
 use Rattle.std.specs.List.{list_any}
 use Rattle.toml_names.specs.model.Addresses.{Address}
 use Rattle.toml_text.specs.Source.{text_of}
-use Rattle.toml_tree.specs.Spells.{EachIs}
 use Rattle.toml_tree.specs.Tree as tree
 use Rattle.toml_units.specs.declared.unit.Unit.{Unit as ReadUnit}
 use Rattle.toml_layout.specs.declared.texts.Texts.{Texts}
@@ -28,22 +27,23 @@ TellsAny test units slot result = (lines : List tree.Line) → result ≡ list_a
 abbrev pub is_later_line : Address → Standing → Bool
 is_later_line p s = begins_later p s.base s.address
 
--- whether one of them is such a header; or any header, where it is asked for
+-- whether one of them is such a header; or any header, where the lines that go stand in one section
 abbrev pub TellsEnd : Address → List ReadUnit → Bool → Slot → Bool → Type 0
-TellsEnd p units asks slot result = (lines : List tree.Line) → let ss = slot_standing (read_by units lines) slot in
-    result ≡ ((asks && list_any is_header_line ss) || list_any (is_later_line p) ss)
+TellsEnd p units in_section slot result = (lines : List tree.Line) → let ss = slot_standing (read_by units lines) slot in
+    result ≡ ((in_section && list_any is_header_line ss) || list_any (is_later_line p) ss)
 
 -- whether a line at the address or below it was met by now: before the slot, or in it
 abbrev pub MeetsBelow : Address → List ReadUnit → Bool → Slot → Bool → Type 0
 MeetsBelow p units met slot then_met = (lines : List tree.Line) → then_met ≡ (met || list_any (is_below p) (slot_standing (read_by units lines) slot))
 
--- a header line among these, which is none of those at the address and below, with one of them before; or the header of a later element
+-- A line at the address or below it was met before these lines; one of these is a header, and none is at the address or below it.
 pub record IsSectionEnd (p : Address) (flat met : Bool) (ss : List Standing) : Type 0 where
   pub is_flat : flat ≡ true
   pub is_met : met ≡ true
   pub none : list_any (is_below p) ss ≡ false
   pub header : list_any is_header_line ss ≡ true
 
+-- behind these lines none is at the address or below it, if all of them stand together
 abbrev pub IsEnd : Address → Bool → Bool → List Standing → Type 0
 IsEnd p flat met ss = IsSectionEnd p flat met ss ⊎ (list_any (is_later_line p) ss ≡ true)
 
@@ -57,8 +57,8 @@ abbrev pub StaysBehindSlot : Texts → Read → Address → Address → Bool →
 StaysBehindSlot texts read p q stays then_stays slot = SlotKept (text_of texts.source) read slot
     → then_stays ≡ stays_behind p q stays (slot_standing read slot)
 
--- The lines at the address and below are taken out of the slots from one on. Before it none of them stands; where no table stands in the one
--- there, they are in one section; and none stands behind a later element's header.
+-- The lines at the address and below are taken out, if none of them stands in the slots before the first; where no table stands in the one
+-- there, all are in one section; and none stands behind the header of a later element.
 abbrev pub LeavesBelow : Texts → Read → Address → Bool → ℕ → Address → Bool → List Slot → List Slot → Type 0
 LeavesBelow texts read p flat first q stays old now = (ss : List Standing) → Stands (text_of texts.source) read old ss
     → list_any (is_below p) (slots_standing read (take first old)) ≡ false → (flat ≡ true → StandInOneSection p ss) → NoneBehindLater p ss

@@ -205,33 +205,9 @@ impl<'x> Tree<'x> {
     }
 }
 
-/// Takes out the lines of the slots at the address and below, from the first slot on.
-fn remove_in_slots<'t>(
-    slots: &mut Vec<Slot<'t>>,
-    texts: Texts<'t>,
-    before: Before<'_, 't>,
-    first: usize,
-    at: &Address,
-    flat: bool,
-    parent: &mut Parent,
-) -> Result<(), AllocError>
-    ensures { let old = parent.old in
-        OnOk result (LeavesBelow texts.entry (read_of before.entry) at.now flat first old.address old.stays slots.old.items slots.new.items) }
-{
-    let mut is_met = false;
-    for index in first..slots.len() {
-        if let Some(slot) = slots.get_mut(index) {
-            if slot.remove_below(texts, before, at, flat, &mut is_met, parent)? {
-                return Ok(());
-            }
-        }
-    }
-    Ok(())
-}
-
 impl<'t> Slot<'t> {
-    /// Takes out its lines at the address and below. It says whether none stands behind it: so it is where such lines were met, and one
-    /// of its own tells that.
+    /// Takes out its lines at the address and below; `is_met` says whether there was one, in it or before it. It answers whether its own
+    /// lines tell that there is none behind it.
     fn remove_below(
         &mut self,
         texts: Texts<'t>,
@@ -258,14 +234,12 @@ impl<'t> Slot<'t> {
         Ok(*is_met && self.ends(before.units, at, flat))
     }
 
-    /// Whether one of its lines is the header of a later element of the array; or, where it is asked for, any header.
-    fn ends<'a>(&'a self, units: &'a [Unit], at: &Address, asks_headers: bool) -> bool
-        ensures { TellsEnd at.now units.now asks_headers self.now result }
+    /// Whether no line behind it is at the address or below, since such a line was met before it, and one of its own is the header of a
+    /// later element of the array; or any header, where it has no such line and all of them stand in one section.
+    fn ends<'a>(&'a self, units: &'a [Unit], at: &Address, in_section: bool) -> bool
+        ensures { TellsEnd at.now units.now in_section self.now result }
     {
-        // all lines of a table in which no table stands are in one section
-        (asks_headers && self.has_header(units))
-            // behind the header of a later element no line is one of this
-            || self.begins_later(units, at)
+        (in_section && self.has_header(units)) || self.begins_later(units, at)
     }
 
     /// Whether one of its lines is the header of a later element of the array.
@@ -369,6 +343,30 @@ fn remove_in<'t>(
         Some(lines) => lines.remove(texts, before, at, parent),
         None => Ok(()),
     }
+}
+
+/// Takes out the lines of the slots at the address and below. No slot before the first one here has such a line.
+fn remove_in_slots<'t>(
+    slots: &mut Vec<Slot<'t>>,
+    texts: Texts<'t>,
+    before: Before<'_, 't>,
+    first: usize,
+    at: &Address,
+    flat: bool,
+    parent: &mut Parent,
+) -> Result<(), AllocError>
+    ensures { let old = parent.old in
+        OnOk result (LeavesBelow texts.entry (read_of before.entry) at.now flat first old.address old.stays slots.old.items slots.new.items) }
+{
+    let mut is_met = false;
+    for index in first..slots.len() {
+        if let Some(slot) = slots.get_mut(index) {
+            if slot.remove_below(texts, before, at, flat, &mut is_met, parent)? {
+                return Ok(());
+            }
+        }
+    }
+    Ok(())
 }
 
 /// Takes out the lines at the address and below.
