@@ -36,6 +36,7 @@ mod RenamedSlots
 mod MadeBeside
 mod Removed
 mod RemovedOne
+mod BelowOut
 mod HeldLines
 mod OneLine
 mod Tidy

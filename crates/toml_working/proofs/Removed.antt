@@ -18,6 +18,7 @@ use Rattle.toml_working.specs.Becoming.{BodyBecomes}
 use Rattle.toml_working.specs.OpeningLines.{HasOutline, alone}
 use Rattle.toml_working.specs.Putting.{LineIsLast}
 use Rattle.toml_working.specs.RemoveStanding.{empty_standing, left_of_pair, makes, parts_to}
+use Rattle.toml_working.specs.RemovingBelow.{StaysBehindSlot}
 use Rattle.toml_working.specs.RemovingIn.{LeavesBehind, LeavesLines, LeavesSlot, LinesKept, lines_of, stays_behind, stays_past, left_of_one, left_of_all}
 use Rattle.toml_working.specs.Standing.{Standing, Read, body_outline, lies_below, line_standing}
 use Rattle.toml_working.specs.Stands.{BodyKept, OpensSlot}
@@ -134,3 +135,11 @@ pub slot_leaves : (texts : Texts) (read : Read) (p q : Address) (stays then_stay
 slot_leaves texts read p q stays then_stays old mid lines made opens is leaves kept =
     let (kept_now, left, after) = leaves read refl (opened_kept (text_of texts.source) read old mid lines opens is kept) in
     (kept_now, left ∙ ap (left_of_all p q stays) (opened_standing read old mid lines opens is))
+
+-- and the table above
+pub slot_stays : (texts : Texts) (read : Read) (p q : Address) (stays then_stays : Bool) (old mid : Slot) (lines made : Vec Line Global)
+    → OpensSlot read.units old mid → mid ≡ slots.Lines lines → LeavesLines texts read.lines p q stays then_stays lines.items made.items
+    → StaysBehindSlot texts read p q stays then_stays old
+slot_stays texts read p q stays then_stays old mid lines made opens is leaves kept =
+    let (kept_now, left, after) = leaves read refl (opened_kept (text_of texts.source) read old mid lines opens is kept) in
+    after ∙ ap (stays_behind p q stays) (opened_standing read old mid lines opens is)

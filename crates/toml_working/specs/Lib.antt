@@ -41,6 +41,7 @@ pub mod HeldLines
 pub mod RemoveStanding
 pub mod RemovingIn
 pub mod RemovingTables
+pub mod RemovingBelow
 pub mod FlatTables
 -- what a plain edit writes
 pub mod Lines

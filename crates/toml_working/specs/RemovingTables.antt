@@ -5,8 +5,6 @@ use Rattle.std.specs.List.{list_any}
 use Rattle.toml_names.specs.model.Addresses.{Address}
 use Rattle.toml_text.specs.Source.{text_of}
 use Rattle.toml_layout.specs.Holders.{parent_of}
-use Rattle.toml_layout.specs.declared.texts.Texts.{Texts}
-use Rattle.toml_working.specs.declared.lines.Slot.{Slot}
 use Rattle.toml_working.specs.declared.lines.Sought.TheVariants as sought
 use Rattle.toml_working.specs.declared.working.Tree.{Tree}
 use Rattle.toml_working.specs.Headers.{begins_later, element_of}

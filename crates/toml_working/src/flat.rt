@@ -1,5 +1,7 @@
 //! Tables in which no table stands: all their lines stand in one section.
+ghost use Rattle.toml_working.specs.FollowingHeaders.{is_header_line};
 ghost use Rattle.toml_working.specs.NextHeaders.{FindsFirst};
+ghost use Rattle.toml_working.specs.RemovingBelow.{FindsFirstBelow, TellsAny};
 
 use crate::lines::Slot;
 use crate::working::{Before, TablePlace, Tree};
@@ -48,7 +50,8 @@ impl<'x> Tree<'x> {
         at: &Address,
         begins: bool,
     ) -> usize
-        ensures { FindsFirst at.now before.entry.units.now self.now.slots.items result }
+        ensures headers { FindsFirst at.now before.entry.units.now self.now.slots.items result }
+        ensures lines { FindsFirstBelow at.now before.entry.units.now self.now.slots.items begins result }
     {
         match self.near_table(before, named, at) {
             Some(TablePlace::Header(header)) if begins => header.slot,
@@ -59,7 +62,9 @@ impl<'x> Tree<'x> {
 
 impl<'t> Slot<'t> {
     /// Whether one of its lines is a header.
-    pub(crate) fn has_header<'a>(&'a self, units: &'a [Unit]) -> bool {
+    pub(crate) fn has_header<'a>(&'a self, units: &'a [Unit]) -> bool
+        ensures { TellsAny is_header_line units.now self.now result }
+    {
         for index in 0..self.count() {
             let Some(line) = self.seen(units, index) else {
                 return false;

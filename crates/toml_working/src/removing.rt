@@ -1,11 +1,13 @@
 //! `remove`: elements and pairs in a value, and lines.
-ghost use Rattle.std.specs.Prelude.{◌≡◌, ◌∷◌, [], IfOk, OnOk};
+ghost use Rattle.std.specs.Prelude.{◌≡◌, ◌∷◌, [], IfOk, OnOk, true};
 ghost use Rattle.std.specs.List.{list_any};
 ghost use Rattle.toml_layout.specs.KnownLines.{lines_known};
 ghost use Rattle.toml_working.specs.HeldLines.{TakesFromValue};
 ghost use Rattle.toml_working.specs.Parents.{IsParent};
 ghost use Rattle.toml_working.specs.RemoveStanding.{makes_apart};
+ghost use Rattle.toml_working.specs.RemovingBelow.{EndsBelow, KeepsOthers, LeavesBelow, MeetsBelow, RemovesBelow, RemovesTogether, StaysBehindSlot, TellsAny, TellsEnd, TellsLeft, is_later_line};
 ghost use Rattle.toml_working.specs.RemovingIn.{LeavesBehind, LeavesElements, LeavesLines, LeavesSlot, LeavesSlots, RemovesLines, SlotTellsMaker, TakesElement, TakesOutLine, TellsMaker, TellsStays, lines_of};
+ghost use Rattle.toml_working.specs.RemovingTables.{RemovesTable};
 ghost use Rattle.toml_working.specs.Seeing.{IsSoughtAt};
 ghost use Rattle.toml_working.specs.Starting.{read_of};
 ghost use Rattle.toml_working.specs.Stands.{KeepsRest};
@@ -43,6 +45,7 @@ impl<'x> Tree<'x> {
         ensures line { OnOk result (RemovesLines at.now (read_of before.entry) self.old self.new) }
         ensures value { IfOk result (TakesFromValue at.now (read_of before.entry) self.old self.new) }
         ensures element { IfOk result (TakesElement at.now (read_of before.entry) self.old) }
+        ensures table { IfOk result (RemovesTable at.now flat (read_of before.entry) self.old self.new) }
     {
         match self.value_line(before, named, at) {
             Some(place) => self.remove_value(before, place, at),
@@ -78,7 +81,8 @@ impl<'x> Tree<'x> {
         at: &Address,
         flat: bool,
     ) -> Result<bool, AllocError>
-        ensures { IfOk result (LeavesElements at.now before.entry.units.now self.old.slots.items) }
+        ensures elements { IfOk result (LeavesElements at.now before.entry.units.now self.old.slots.items) }
+        ensures table { IfOk result (RemovesTogether at.now flat (read_of before.entry) self.old self.new) }
     {
         let first = self.first_slot(before, named, at, flat || is_element(at));
         if !self.leaves_elements(before, first, at)? {
@@ -134,7 +138,10 @@ impl<'x> Tree<'x> {
         before: Before<'_, 'x>,
         at: &Address,
         slot: usize,
-    ) -> Result<Parent, AllocError> {
+    ) -> Result<Parent, AllocError>
+        ensures address { IfOk result (λ parent. IsParent at.now parent.address) }
+        ensures stays { IfOk result (λ parent. TellsLeft at.now before.entry.units.now self.now.slots.items parent.address parent.stays) }
+    {
         let address = parent_of(self.alloc(), at)?;
         let stays = address.steps().is_empty() || self.is_made_around(before, slot, &address, at);
         Ok(Parent { address, stays })
@@ -163,7 +170,8 @@ impl<'x> Tree<'x> {
         first: usize,
         at: &Address,
     ) -> Result<bool, AllocError>
-        ensures { IfOk result (LeavesElements at.now before.entry.units.now self.now.slots.items) }
+        ensures elements { IfOk result (LeavesElements at.now before.entry.units.now self.now.slots.items) }
+        ensures others { IfOk result (KeepsOthers at.now) }
     {
         if !is_element(at) {
             return Ok(true);
@@ -180,30 +188,64 @@ impl<'x> Tree<'x> {
         first: usize,
         at: &Address,
         flat: bool,
-    ) -> Result<(), AllocError> {
-        let texts = self.texts;
+    ) -> Result<(), AllocError>
+        ensures texts { OnOk result (self.new.texts ≡ self.old.texts) }
+        ensures lines { OnOk result (RemovesBelow at.now flat first (read_of before.entry) self.old self.new) }
+    {
         let mut parent = self.parent_left(before, at, first)?;
-        let mut is_met = false;
-        for slot in self.slots.iter_mut().skip(first) {
-            if slot.is_below(before.units, at) {
-                slot.remove(texts, before, at, &mut parent)?;
-                is_met = true;
-            } else if flat && is_met && slot.has_header(before.units) {
-                // all lines of such a table stand in one section
-                return Ok(());
-            }
-            // behind the header of a later element no line is one of this
-            if is_met && slot.begins_later(before.units, at) {
-                return Ok(());
-            }
-        }
-        Ok(())
+        remove_in_slots(
+            &mut self.slots,
+            self.texts,
+            before,
+            first,
+            at,
+            flat,
+            &mut parent,
+        )
     }
 }
 
 impl<'t> Slot<'t> {
+    /// Takes out its lines at the address and below; `is_met` says whether there was one, in it or before it. It answers whether its own
+    /// lines tell that there is none behind it.
+    fn remove_below(
+        &mut self,
+        texts: Texts<'t>,
+        before: Before<'_, 't>,
+        at: &Address,
+        flat: bool,
+        is_met: &mut bool,
+        parent: &mut Parent,
+    ) -> Result<bool, AllocError>
+        ensures address { parent.new.address ≡ parent.old.address }
+        ensures meets { MeetsBelow at.now before.entry.units.now is_met.old self.old is_met.new }
+        ensures slot { let old = parent.old in
+            OnOk result (LeavesSlot texts.entry (read_of before.entry) at.now old.address old.stays self.old self.new) }
+        ensures stays { let old = parent.old in let new = parent.new in
+            OnOk result (StaysBehindSlot texts.entry (read_of before.entry) at.now old.address old.stays new.stays self.old) }
+        ensures ends { IfOk result (λ ends. ends ≡ true → EndsBelow at.now before.entry.units.now flat is_met.old self.old) }
+    {
+        if self.is_below(before.units, at) {
+            *is_met = true;
+            let ends = self.begins_later(before.units, at);
+            self.remove(texts, before, at, parent)?;
+            return Ok(ends);
+        }
+        Ok(*is_met && self.ends(before.units, at, flat))
+    }
+
+    /// Whether no line behind it is at the address or below, since such a line was met before it, and one of its own is the header of a
+    /// later element of the array; or any header, where it has no such line and all of them stand in one section.
+    fn ends<'a>(&'a self, units: &'a [Unit], at: &Address, in_section: bool) -> bool
+        ensures { TellsEnd at.now units.now in_section self.now result }
+    {
+        (in_section && self.has_header(units)) || self.begins_later(units, at)
+    }
+
     /// Whether one of its lines is the header of a later element of the array.
-    fn begins_later<'a>(&'a self, units: &'a [Unit], at: &Address) -> bool {
+    fn begins_later<'a>(&'a self, units: &'a [Unit], at: &Address) -> bool
+        ensures { TellsAny (is_later_line at.now) units.now self.now result }
+    {
         for index in 0..self.count() {
             let Some(line) = self.seen(units, index) else {
                 return false;
@@ -233,8 +275,11 @@ impl<'t> Slot<'t> {
         at: &Address,
         parent: &mut Parent,
     ) -> Result<(), AllocError>
-        ensures { let old = parent.old in
+        ensures address { parent.new.address ≡ parent.old.address }
+        ensures slot { let old = parent.old in
             OnOk result (LeavesSlot texts.entry (read_of before.entry) at.now old.address old.stays self.old self.new) }
+        ensures stays { let old = parent.old in let new = parent.new in
+            OnOk result (StaysBehindSlot texts.entry (read_of before.entry) at.now old.address old.stays new.stays self.old) }
     {
         self.open(texts.alloc, before.units)?;
         match self {
@@ -300,6 +345,30 @@ fn remove_in<'t>(
     }
 }
 
+/// Takes out the lines of the slots at the address and below. No slot before the first one here has such a line.
+fn remove_in_slots<'t>(
+    slots: &mut Vec<Slot<'t>>,
+    texts: Texts<'t>,
+    before: Before<'_, 't>,
+    first: usize,
+    at: &Address,
+    flat: bool,
+    parent: &mut Parent,
+) -> Result<(), AllocError>
+    ensures { let old = parent.old in
+        OnOk result (LeavesBelow texts.entry (read_of before.entry) at.now flat first old.address old.stays slots.old.items slots.new.items) }
+{
+    let mut is_met = false;
+    for index in first..slots.len() {
+        if let Some(slot) = slots.get_mut(index) {
+            if slot.remove_below(texts, before, at, flat, &mut is_met, parent)? {
+                return Ok(());
+            }
+        }
+    }
+    Ok(())
+}
+
 /// Takes out the lines at the address and below.
 fn remove_from<'t>(
     lines: &mut Vec<Line<'t>>,
@@ -308,7 +377,8 @@ fn remove_from<'t>(
     at: &Address,
     parent: &mut Parent,
 ) -> Result<(), AllocError>
-    ensures { let old = parent.old in let new = parent.new in
+    ensures address { parent.new.address ≡ parent.old.address }
+    ensures lines { let old = parent.old in let new = parent.new in
         OnOk result (LeavesLines texts.entry (lines_known known.now) at.now old.address old.stays new.stays lines.old.items lines.new.items) }
 {
     let old = mem::replace(lines, Vec::new(texts.alloc));

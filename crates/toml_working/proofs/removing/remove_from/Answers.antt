@@ -33,8 +33,8 @@ loop-line-preserved c =
           (ap (λ o. c.loop-line.lines.items ++ lines_of o) c.in_default.is ∙ append-nil c.loop-line.lines.items),
     )
 
-pub returns : goal.returns
-returns c =
+pub returns-clause-lines : goal.returns-clause-lines
+returns-clause-lines c =
     let it = c.into_iter-line-iterator.result in
     let given = c.into_iter-line-iterator.ensures.into_iter_gives in
     let all = YieldsList-from_vec {s = it} c.replace-old.result.items given.0 (given.1 ∙ c.replace-old.result.ok.0) in

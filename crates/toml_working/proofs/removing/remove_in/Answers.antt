@@ -9,7 +9,7 @@ returns-in-Some c =
     (λ leaves.
     one_turns _ c.args.slot c.args.slots.now.items _ c.in-Some.lines.now c.remove.new.self
     c.in-Some.ensures.item.3.0 c.in-Some.ensures.value refl leaves)
-    c.remove.ensures
+    c.remove.ensures.slot
 
 pub returns-in-None : goal.returns-in-None
 returns-in-None c = none_turns _ c.args.slot c.args.slots.now.items c.in-None.ensures.item.3

@@ -12,7 +12,7 @@ use Rattle.toml_working.proofs.working.Tree.behind_element.Goals as goal
 pub loop-slot-init : goal.loop-slot-init
 loop-slot-init c lines together =
     let read = read_by c.args.before.units.now lines in
-    walk_begins c.args.element.now read c.args.self.now.slots.items c.first_slot-slot.result (c.first_slot-slot.ensures lines together)
+    walk_begins c.args.element.now read c.args.self.now.slots.items c.first_slot-slot.result (c.first_slot-slot.ensures.headers lines together)
 
 pub returns-in-Ended : goal.returns-in-Ended
 returns-in-Ended c lines together =

@@ -47,4 +47,16 @@ pub returns-in-None-clause-element : goal.returns-in-None-clause-element
 returns-in-None-clause-element c =
     let at = c.args.at.now in
     IfOk-weaker c.remove_table.result _ _ (λ done leaves. λ ss stands ordered none is_element.
-    leaves is_element (read_of c.args.before).lines ∙ ap (list_any (makes_beside (parent_of at) at)) stands.are) c.remove_table.ensures
+    leaves is_element (read_of c.args.before).lines ∙ ap (list_any (makes_beside (parent_of at) at)) stands.are) c.remove_table.ensures.elements
+
+pub returns-in-Some-clause-table : goal.returns-in-Some-clause-table
+returns-in-Some-clause-table c =
+    let read = read_of c.args.before in
+    let tree = c.args.self.now in
+    let found = subst (FindsHolder c.args.at.now c.args.before.units.now tree.slots.items) c.in-Some.is c.value_line.ensures.0 read.lines in
+    if_ok_always _ c.remove_value.result (λ done not_root ss stands none together.
+    absurd (true≢false (sym (held_there c.args.at.now (text_of tree.texts.source) read tree.slots.items c.in-Some.place ss found stands) ∙ none)))
+
+pub returns-in-None-clause-table : goal.returns-in-None-clause-table
+returns-in-None-clause-table c =
+    IfOk-weaker c.remove_table.result _ _ (λ done removes. λ not_root ss stands none together. removes not_root ss stands together) c.remove_table.ensures.table
