@@ -26,6 +26,7 @@ mod HeaderAdded
 mod PutAhead
 mod Alone
 mod TablesFound
+mod FlatData
 mod Turned
 mod Changed
 mod SetAway

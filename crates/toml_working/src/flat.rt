@@ -1,4 +1,11 @@
 //! Tables in which no table stands: all their lines stand in one section.
+ghost use Rattle.std.specs.Prelude.{◌≡◌, ℕ, IsTrue, Some, option_copied, slice_get};
+ghost use Rattle.toml_scalar.specs.declared.scalar.Scalar.{Scalar as Token};
+ghost use Rattle.toml_names.specs.declared.model.datum.Datum.{Datum as Item, Scalar};
+ghost use Rattle.toml_names.specs.mentions.Mentions.{a_table};
+ghost use Rattle.toml_names.specs.model.Addresses.{Address as Steps};
+ghost use Rattle.toml_names.specs.model.Data.{kind_at};
+ghost use Rattle.toml_working.specs.FlatTables.{IsFlat};
 ghost use Rattle.toml_working.specs.FollowingHeaders.{is_header_line};
 ghost use Rattle.toml_working.specs.NextHeaders.{FindsFirst};
 ghost use Rattle.toml_working.specs.RemovingBelow.{FindsFirstBelow, TellsAny};
@@ -9,7 +16,9 @@ use toml_names::{Address, Datum, Place};
 use toml_units::Unit;
 
 /// Whether it is a table in which no table stands: one of scalars and arrays of scalars.
-pub fn is_flat(found: Option<&Datum>) -> bool {
+pub fn is_flat(found: Option<&Datum>) -> bool
+    ensures { IsTrue result → IsFlat (option_copied found.entry) }
+{
     let Some(Datum::Table(members)) = found else {
         return false;
     };
@@ -22,7 +31,9 @@ pub fn is_flat(found: Option<&Datum>) -> bool {
 }
 
 /// Whether it is a scalar or an array of scalars.
-fn has_no_table(member: &Datum) -> bool {
+fn has_no_table(member: &Datum) -> bool
+    ensures { IsTrue result → (a : Steps) → ¬ (kind_at member.now a ≡ Some a_table) }
+{
     match member {
         Datum::Scalar(_) => true,
         Datum::Array(items) => are_scalars(items),
@@ -31,7 +42,9 @@ fn has_no_table(member: &Datum) -> bool {
 }
 
 /// Whether all are scalars.
-fn are_scalars(items: &[Datum]) -> bool {
+fn are_scalars(items: &[Datum]) -> bool
+    ensures { IsTrue result → (i : ℕ) (d : Item) → slice_get items.now i ≡ Some d → (s : Token) × (d ≡ Scalar s) }
+{
     for item in items {
         if !matches!(item, Datum::Scalar(_)) {
             return false;
