@@ -7,7 +7,7 @@ use Rattle.toml_edits.specs.Edits.{insert, new_element, new_section, remove, ren
 use Rattle.toml_layout.specs.TreeOutlines.{value_outline}
 use Rattle.toml_working.proofs.Proved.{put_lines_are_one, taken_lines_are_one}
 use Rattle.toml_names.specs.model.Addresses.{Address}
-use Rattle.toml_working.specs.HeldLines.{expr_has_container, has_container_at}
+use Rattle.toml_working.specs.HeldLines.{has_container_at}
 use Rattle.toml_working.specs.Standing.{Standing, holds}
 use Rattle.toml_editor.specs.LastTexts.{OneChange}
 

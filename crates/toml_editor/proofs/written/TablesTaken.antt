@@ -1,5 +1,5 @@
 -- A `remove` of a table, of an array of tables, or of an element that is not its only one, is made.
-use Rattle.std.proofs.Common.{◌≡◌, ◌∙◌, ◌⊎◌, ◌∷◌, ◌++◌, [], inl, inr, ℕ, Bool, true, false, Option, Some, None, List, ap, ap₂, refl, sym, subst}
+use Rattle.std.proofs.Common.{◌≡◌, ◌∙◌, ◌⊎◌, ◌∷◌, ◌++◌, [], inl, inr, Bool, true, false, None, List, ap, ap₂, refl, sym, subst}
 use Rattle.std.specs.List.{list_any}
 use Rattle.std.specs.Prelude.{IsSome, is_some}
 use Rattle.toml_tree.specs.Tree.{Line}
