@@ -33,7 +33,7 @@ use Rattle.toml_editor.proofs.written.Steps.{one_list_written, one_written}
 use Rattle.toml_working.specs.Manners.{Manner, manner_of}
 use Rattle.toml_editor.specs.EditedLines.{manner_after}
 
-compare : (a b : ℕ) → (a < b) ⊎ (a ≡ b) ⊎ (b < a)
+pub compare : (a b : ℕ) → (a < b) ⊎ (a ≡ b) ⊎ (b < a)
 compare a b = elim (le_or a b) [
   | inr high ↦ inr (inr high)
   | inl low ↦ elim (le_or b a) [
@@ -125,20 +125,20 @@ module _ (layout : Layout) (profile : Profile) (before : List ℕ) (cs : List Ch
   pub of_tree : (P : Doc → Type 0) → OfTree before P → P d
   of_tree P (e, e_spelled, holds) = subst P (one_tree e d before e_spelled spelled) holds
 
-  of_data : (P : Kinds → Type 0) → OfData before P → P so_far.old
+  pub of_data : (P : Kinds → Type 0) → OfData before P → P so_far.old
   of_data P (e, e_spelled, kinds, facts, holds) =
       subst P (fun_ext (one_data (named d.lines) kinds so_far.old
       (subst (λ (x : Doc). IsDataOf (named x.lines) kinds) (one_tree e d before e_spelled spelled) facts) so_far.facts)) holds
 
   -- an edit before that has no fault, is not refused, and is plain
-  no_fault_before : (j : ℕ) (P : Change → Kinds → Type 0) → ((c : Change) (kinds : Kinds) → P c kinds → (fault : EditFault) × IsFault profile c kinds (Some fault))
+  pub no_fault_before : (j : ℕ) (P : Change → Kinds → Type 0) → ((c : Change) (kinds : Kinds) → P c kinds → (fault : EditFault) × IsFault profile c kinds (Some fault))
       → j < n → OnDataSoFar profile before cs j P → ⊥
   no_fault_before j P faulty low on =
       let (mid, lead, c, is, holds) = of_data (λ old. SoFar profile cs old j P) on in
       let (fault, h) = faulty c mid holds in
       no_fault profile cs n j so_far.old now mid c fault so_far.lead low lead is h
 
-  not_refused_before : (j : ℕ) (c : Change) → slice_get cs j ≡ Some c → j < n → IsNeitherPlainNorHeld layout profile before cs j → ⊥
+  pub not_refused_before : (j : ℕ) (c : Change) → slice_get cs j ≡ Some c → j < n → IsNeitherPlainNorHeld layout profile before cs j → ⊥
   not_refused_before j c is low neither =
       let at = defined_at profile cs n j so_far.old now c so_far.lead low is in
       let text = plain_at profile cs n j manner before after c so_far.plain so_far.written low is in
@@ -146,7 +146,7 @@ module _ (layout : Layout) (profile : Profile) (before : List ℕ) (cs : List Ch
       at.is_after text.plain text.between text.written (λ e spells. inl (text.here e spells))
 
 -- what stands of an edit of a list
-edit_at : (profile : Profile) (before : List ℕ) (cs : List Change) (j : ℕ) (P : Change → Kinds → Type 0) → OnDataSoFar profile before cs j P
+pub edit_at : (profile : Profile) (before : List ℕ) (cs : List Change) (j : ℕ) (P : Change → Kinds → Type 0) → OnDataSoFar profile before cs j P
     → (c : Change) × (slice_get cs j ≡ Some c)
 edit_at profile before cs j P (e, e_spelled, kinds, facts, so) = (so.2, so.3)
 
@@ -200,7 +200,7 @@ module _ (layout : Layout) (profile : Profile) (before : List ℕ) (cs : List Ch
       absurd (not_refused_before layout profile before cs (length cs) after now so_far j c is (low j c is) told.2)
   only faults.TooLong told =
       let (text, writes, long) = told.1 in
-      inr (refl, subst (λ t. max_len < length t) (is_text text writes) long)
+      inr (refl, subst (λ t. max_len < length t) (is_text text writes.plain) long)
   only (faults.Unverified r) told = absurd (no_list told.1)
   only faults.NoMemory told = inl refl
 
@@ -223,6 +223,23 @@ long_is_answered layout profile before cs after now so_far long (Err fault) is =
       | inl memory ↦ inr (ap Err memory)
       | inr too_long ↦ inl (ap Err too_long.0)
     ]
+
+-- what has no one place is refused with 307, what takes a last element with 308
+pub of_spread : (n : ℕ) (kinds : Kinds) (c : Change) → MayBeSpread c kinds → faults.Spread n ≡ refusal n c
+of_spread n kinds (edits.set p text) may = refl
+of_spread n kinds (edits.insert p text) may = refl
+of_spread n kinds (edits.rename p to) may = refl
+of_spread n kinds (edits.remove p) may = absurd may
+of_spread n kinds (edits.new_section p) may = refl
+of_spread n kinds (edits.new_element p) may = refl
+
+pub of_last : (n : ℕ) (kinds : Kinds) (c : Change) → TakesLastElement c kinds → faults.LastElement n ≡ refusal n c
+of_last n kinds (edits.set p text) takes = absurd takes
+of_last n kinds (edits.insert p text) takes = absurd takes
+of_last n kinds (edits.rename p to) takes = absurd takes
+of_last n kinds (edits.remove p) takes = refl
+of_last n kinds (edits.new_section p) takes = absurd takes
+of_last n kinds (edits.new_element p) takes = absurd takes
 
 -- ---- the edit behind is not
 
@@ -291,7 +308,7 @@ module _ (layout : Layout) (profile : Profile) (before : List ℕ) (cs : List Ch
         (λ x. (k : ℕ) → k < m → AfterPlain layout profile before cs x k (λ y text. ¬ IsRefusedIn profile text y)) none_refused n less c is old at.mid at.next so_far.facts
         at.lead at.none at.is_after so_far.plain between so_far.written refused
 
-    passed_all : OfData before (AreDefined profile cs) → NoneIsRefused layout profile before cs (length cs) → ⊥
+    pub passed_all : OfData before (AreDefined profile cs) → NoneIsRefused layout profile before cs (length cs) → ⊥
     passed_all defined =
         let (new, lead) = of_data layout profile before cs n between mid so_far (AreDefined profile cs) defined in
         passed (length cs) new (subst (λ ds. Lead profile ds old new) (sym (take_all (length cs) cs (omega arith))) lead) (slice_get_within cs n c is)
@@ -300,23 +317,6 @@ module _ (layout : Layout) (profile : Profile) (before : List ℕ) (cs : List Ch
     passed_at j P on =
         let (there, lead, x, x_is, holds) = of_data layout profile before cs n between mid so_far (λ k. SoFar profile cs k j P) on in
         passed j there lead
-
-    -- what has no one place is refused with 307, what takes a last element with 308
-    of_spread : (x : Change) → MayBeSpread x mid → faults.Spread n ≡ refusal n x
-    of_spread (edits.set p text) may = refl
-    of_spread (edits.insert p text) may = refl
-    of_spread (edits.rename p to) may = refl
-    of_spread (edits.remove p) may = absurd may
-    of_spread (edits.new_section p) may = refl
-    of_spread (edits.new_element p) may = refl
-
-    of_last : (x : Change) → TakesLastElement x mid → faults.LastElement n ≡ refusal n x
-    of_last (edits.set p text) takes = absurd takes
-    of_last (edits.insert p text) takes = absurd takes
-    of_last (edits.rename p to) takes = absurd takes
-    of_last (edits.remove p) takes = refl
-    of_last (edits.new_section p) takes = absurd takes
-    of_last (edits.new_element p) takes = absurd takes
 
     -- a fault that says this of the data, and is a refusal of the edit that has it, is the one of this edit
     refused_alike : (P : Change → Kinds → Type 0) (say : ℕ → EditorFault) → ((x : Change) → P x mid → say n ≡ refusal n x) → (j : ℕ)
@@ -351,8 +351,8 @@ module _ (layout : Layout) (profile : Profile) (before : List ℕ) (cs : List Ch
             (subst (λ k. OnDataSoFar profile before cs k (λ x kinds. IsFault profile x kinds (Some f))) same told.1) in
             absurd (none f h.0)
         by (inr (inr high)) = absurd (passed_at j (λ x kinds. IsFault profile x kinds (Some f)) told.1 high told.2)
-    refused_is_answered (Err (faults.Spread j)) told = refused_alike MayBeSpread faults.Spread of_spread j told.1 told.2 told.3
-    refused_is_answered (Err (faults.LastElement j)) told = refused_alike TakesLastElement faults.LastElement of_last j told.1 told.2 told.3
+    refused_is_answered (Err (faults.Spread j)) told = refused_alike MayBeSpread faults.Spread (of_spread n mid) j told.1 told.2 told.3
+    refused_is_answered (Err (faults.LastElement j)) told = refused_alike TakesLastElement faults.LastElement (of_last n mid) j told.1 told.2 told.3
     refused_is_answered (Err faults.TooLong) told = absurd (passed_all told.0.1 told.2)
     refused_is_answered (Err (faults.Unverified r)) told = absurd (passed_all told.0.1 told.2)
     refused_is_answered (Err faults.NoMemory) told = inr refl

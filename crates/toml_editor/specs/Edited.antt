@@ -88,6 +88,11 @@ MayBeRefused c kinds = MayBeSpread c kinds ⊎ TakesLastElement c kinds
 abbrev pub OfDefined : Profile → (Change → Kinds → Type 0) → Change → Kinds → Type 0
 OfDefined profile P c kinds = IsFault profile c kinds None × P c kinds
 
+-- what is told of a text that the edits make: of plain ones, and of a last one behind plain ones
+pub record IsTextOf (layout : Layout) (profile : Profile) (before : List ℕ) (cs : List Change) (after : List ℕ) : Type 0 where
+  pub plain : WritesPlain layout profile before cs after
+  pub last : WritesLast layout profile before cs after
+
 -- why the text is no document; want of memory tells nothing of it
 abbrev pub RefusesText : Profile → List ℕ → EditorFault → Type 0
 RefusesText profile before (Text fault) = (¬ IsDocumentIn profile before) × IsFaultOf before fault
@@ -104,10 +109,10 @@ AreDefinedOn profile before cs = IsDocumentIn profile before × OfData before (A
 -- What a fault of the editor tells in a layout. Of an edit: that the text is a document, and the fault is the edit's on the data so far. That its
 -- place is spread, or that it takes a last element: that it is defined on these data, and if those before it are plain, it is not plain, and
 -- no array and no inline table in the value of a line holds what it puts in or takes out. That the result is too long: all edits are
--- defined, and where they are plain, what they write is too long. That the judge refuses it: all edits are defined, the list is not one of
--- plain edits, and the reason is the first demand that no certificate meets of some text. That this is the text which was made says
--- `certify` alone: here `AfterRefused` can always be told, by the text `=`. And each time that no edit before, or of the list, is refused
--- (`IsRefusedIn`), if those before it are plain. Of want of memory: nothing.
+-- defined, and the text is longer. That the judge refuses it: all edits are defined, the list is not one of plain edits, and the reason is the
+-- first demand that no certificate meets of the text. Where all edits before the last one are plain, this text is one (`IsTextOf`); of others
+-- `certify` alone says which it is, and `AfterRefused` can always be told, by the text `=`. And each time that no edit before, or of the list,
+-- is refused (`IsRefusedIn`), if those before it are plain. Of want of memory: nothing.
 abbrev pub TellsWith : Layout → Profile → List ℕ → List Change → EditorFault → Type 0
 TellsWith layout profile before cs (Edit index fault) =
     IsDocumentIn profile before × OnDataSoFar profile before cs index (λ c kinds. IsFault profile c kinds (Some fault))
@@ -119,11 +124,11 @@ TellsWith layout profile before cs (LastElement index) =
     IsDocumentIn profile before × OnDataSoFar profile before cs index (OfDefined profile TakesLastElement)
     × IsNeitherPlainNorHeld layout profile before cs index × NoneIsRefused layout profile before cs index
 TellsWith layout profile before cs TooLong =
-    AreDefinedOn profile before cs × ((after : List ℕ) × WritesPlain layout profile before cs after × (max_len < length after))
+    AreDefinedOn profile before cs × ((after : List ℕ) × IsTextOf layout profile before cs after × (max_len < length after))
     × NoneIsRefused layout profile before cs (length cs)
 TellsWith layout profile before cs (Unverified reason) =
     AreDefinedOn profile before cs × IsNoPlainList layout profile before cs × NoneIsRefused layout profile before cs (length cs)
-    × ((after : List ℕ) × IsText after × IsFirstUnmet profile before cs after reason)
+    × ((after : List ℕ) × IsText after × IsTextOf layout profile before cs after × IsFirstUnmet profile before cs after reason)
 TellsWith layout profile before cs fault = RefusesText profile before fault
 
 -- in layout `Plain`

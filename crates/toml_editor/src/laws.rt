@@ -4,7 +4,7 @@ ghost use Rattle.toml_editor.specs.CarriedUnits.{PlainIsCarried};
 ghost use Rattle.toml_editor.specs.CarriedLists.{FirstBlankNeedsNewline, ListIsCarried};
 ghost use Rattle.toml_editor.specs.CertifiedLists.{PartnersCertify, OuterAreNamed, OuterPartnersCertify, PlainListIsCertified};
 ghost use Rattle.toml_editor.specs.ChangedUnits.{SetUnits};
-ghost use Rattle.toml_editor.specs.EachEdit.{EachEditIsTold, LastHasOneText};
+ghost use Rattle.toml_editor.specs.EachEdit.{EachEditIsTold, LastHasOneAnswer, LastHasOneText};
 ghost use Rattle.toml_editor.specs.PlainAnswers.{FirstFaultIsAnswered, FirstRefusedIsAnswered, LongIsAnswered, OnlyRefusedIsTold, PlainIsAnswered};
 ghost use Rattle.toml_editor.specs.LastTexts.{OneChange};
 ghost use Rattle.toml_editor.specs.HeaderLaws.{ElementIsLaidOut, ElementNames, ElementUnits, DocumentsAreReady, SectionIsLaidOut, SectionNames, SectionUnits, ValueIsPlace};
@@ -273,8 +273,9 @@ pub fn one_change()
 {}
 
 /// An edit without a fault on a good text is plain, makes such a change, or is refused. So where all edits before the last one are plain, there
-/// is one text that can be answered, and there is one for each list of a single edit.
+/// is one text that they make, and want of memory aside one answer: the text with its certificate, or the fault. This is so of each single edit.
 pub fn each_edit()
     ensures told { EachEditIsTold }
     ensures text { LastHasOneText }
+    ensures answer { LastHasOneAnswer }
 {}

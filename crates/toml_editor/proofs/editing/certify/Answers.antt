@@ -25,7 +25,7 @@ returns-in-Found-clause-edited c =
 pub returns-then-len-gt-MAX_LEN-clause-told : goal.returns-then-len-gt-MAX_LEN-clause-told
 returns-then-len-gt-MAX_LEN-clause-told c = (
   c.requires.made.are_defined,
-  (string_bytes c.args.made.text, c.requires.made.plain, omega (arith, c.len.ensures, c.if-len-gt-MAX_LEN.true)),
+  (string_bytes c.args.made.text, record { plain = c.requires.made.plain; last = c.requires.made.last }, omega (arith, c.len.ensures, c.if-len-gt-MAX_LEN.true)),
   c.requires.made.passed,
 )
 
@@ -41,7 +41,7 @@ returns-in-No-clause-told c =
       c.requires.made.are_defined,
       no_is_not_plain c.args.layout c.args.profile before after cs c.requires.made.are_defined.0 within c.requires.made.plain c.in-No.reason unmet,
       c.requires.made.passed,
-      (after, within, unmet),
+      (after, within, record { plain = c.requires.made.plain; last = c.requires.made.last }, unmet),
     )
 
 pub returns-in-No-clause-judged : goal.returns-in-No-clause-judged
