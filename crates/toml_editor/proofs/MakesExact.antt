@@ -68,10 +68,10 @@ pub makes_one : (profile : Profile) (read : Read) (flat : Bool) (c : Change) (ol
 makes_one profile read flat (set p value) old new done writes text kinds now at none is_after plain =
     (set_made profile read flat p value old new done writes text kinds now at none is_after plain).1
 makes_one profile read flat (insert p value) old new done writes text kinds now at none is_after plain =
-    let (steps, rest, spelled, inserts, inside, below, no_element) = writes at.whole in
+    let (steps, rest, spelled, lines_in, inside, no_element) = writes at.whole in
     let given = is_after.1.value in
     insert_follows profile read old new p value text kinds now at none is_after (plain at.good.tree at.good.spelled) rest
-    given.tree given.is_value steps spelled (inserts given.within given.tree given.is_value) (below given.within given.tree given.is_value)
+    given.tree given.is_value steps spelled (lines_in.root given.within given.tree given.is_value) (lines_in.below given.within given.tree given.is_value)
 makes_one profile read flat (rename p to) old new done writes text kinds now at none is_after plain =
     rename_follows profile read old new p to text kinds now at none is_after (writes at.whole)
 makes_one profile read flat (remove p) old new done writes text kinds now at none is_after plain =
@@ -97,7 +97,7 @@ put_is_made near p value lines done (inr one) told q (Name n) is there = told �
 pub holds_one : (profile : Profile) (read : Read) (flat : Bool) (near : Kinds) (c : Change) (old new : Tree) (done : Bool) → WritesEdit profile read flat c old new done
     → (flat ≡ true → RemovesFlat c near) → (done ≡ true) ⊎ (¬ MayBeRefused c near) → HoldsOne profile read near c old new
 holds_one profile read flat near (insert p value) old new done writes is_flat either text kinds now at none is_after shows (q, last, is, not_root, there) =
-    let (steps, rest, spelled, inserts, inside, below, no_element) = writes at.whole in
+    let (steps, rest, spelled, lines_in, inside, no_element) = writes at.whole in
     let given = is_after.1.value in
     let lines = at.good.tree.lines in
     let (opened, outlined, holds_it) = inside given.within given.tree given.is_value in
@@ -153,7 +153,7 @@ put_is_found : (profile : Profile) (read : Read) (flat : Bool) (p : Address) (va
     → (text : List ℕ) (kinds now : Kinds) → (at : IsAt profile read old text kinds) → IsAfter profile (insert p value) kinds now
     → HasContainerFor at.good.tree.lines (insert p value) → done ≡ true
 put_is_found profile read flat p value old new done writes text kinds now at is_after (q, last, is, not_root, held) =
-    let (steps, rest, spelled, inserts, inside, below, no_element) = writes at.whole in
+    let (steps, rest, spelled, lines_in, inside, no_element) = writes at.whole in
     let given = is_after.1.value in
     let lines = at.good.tree.lines in
     let (opened, outlined, holds_it) = inside given.within given.tree given.is_value in
@@ -222,7 +222,7 @@ passes_one profile read flat near (set p value) old new done writes (inl is) tex
     refused at.good.tree at.good.spelled
     (set_is_there profile read old new p text kinds at (none RootNamed) given.tree done (sets given.within given.tree given.is_value) is)
 passes_one profile read flat near (insert p value) old new done writes (inl is) text kinds now at none is_after may refused =
-    let (steps, rest, spelled, inserts, inside, below, no_element) = writes at.whole in
+    let (steps, rest, spelled, lines_in, inside, no_element) = writes at.whole in
     let given = is_after.1.value in
     true≢false (sym is ∙ insert_refused profile read old p value text kinds at done (no_element given.within given.tree given.is_value) refused)
 passes_one profile read flat near (rename p to) old new done writes (inl is) text kinds now at none is_after may refused = refused

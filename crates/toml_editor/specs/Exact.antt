@@ -105,6 +105,11 @@ abbrev pub WritesBelow : Profile → Read → Address → List ℕ → List (Str
 WritesBelow profile read p text steps old new = IsText text → (v : Value) → IsValueIn profile v text → (q : Address) (last : Step) → p ≡ q ++ last ∷ []
     → TreePutsIn q p steps (value_outline v) read old new
 
+-- of one of a name in a table that is no value and lies in none: at the root, and below it
+pub record WritesLine (profile : Profile) (read : Read) (p : Address) (text : List ℕ) (steps : List (String Global)) (old new : Tree) : Type 0 where
+  pub root : WritesInsert profile read p text steps old new
+  pub below : WritesBelow profile read p text steps old new
+
 -- of one of an element whose array is no line's value, and in none: it is not made
 abbrev pub WritesNoElement : Profile → Read → Address → List ℕ → Tree → Bool → Type 0
 WritesNoElement profile read p text old done = IsText text → (v : Value) → IsValueIn profile v text → (q : Address) (last : Step) → p ≡ q ++ last ∷ []
@@ -130,9 +135,8 @@ pub record WritesRename (read : Read) (p : Address) (to : List ℕ) (old new : T
 abbrev pub WritesEdit : Profile → Read → Bool → Change → Tree → Tree → Bool → Type 0
 WritesEdit profile read flat (set p text) old new done = NoneIsGone old.elements → KeepsRest old new × WritesSet profile read p text old new done
 WritesEdit profile read flat (insert p text) old new done = NoneIsGone old.elements
-    → (steps : List (String Global)) × KeepsRest old new × AreSteps p steps × WritesInsert profile read p text steps old new
-    × WritesInside profile read p text steps old new done × WritesBelow profile read p text steps old new
-    × WritesNoElement profile read p text old done
+    → (steps : List (String Global)) × KeepsRest old new × AreSteps p steps × WritesLine profile read p text steps old new
+    × WritesInside profile read p text steps old new done × WritesNoElement profile read p text old done
 WritesEdit profile read flat (remove p) old new done = NoneIsGone old.elements
     → RemovesLines p read old new × TakesFromValue p read old new done × TakesElement p read old done × RemovesTable p flat read old new done
 WritesEdit profile read flat (rename p to) old new done = NoneIsGone old.elements → WritesRename read p to old new

@@ -4,7 +4,7 @@ ghost use Rattle.toml_scalar.specs.Spelling.{spelled};
 ghost use Rattle.toml_edits.specs.Drafts.{IsReadyAt, drafted};
 ghost use Rattle.toml_edits.specs.Edits.{change, place as place_of};
 ghost use Rattle.toml_editor.specs.Edited.{RemovesFlat, TakesLastElement, MayBeSpread};
-ghost use Rattle.toml_editor.specs.Exact.{WritesBelow, WritesEdit, WritesHeader, WritesInsert, WritesInside, WritesNoElement, WritesRename, WritesSet};
+ghost use Rattle.toml_editor.specs.Exact.{WritesEdit, WritesHeader, WritesInside, WritesLine, WritesNoElement, WritesRename, WritesSet};
 ghost use Rattle.toml_editor.specs.Made.{MakesEdit, MakesEdits, RefusesEdit, RefusesEdits};
 ghost use Rattle.toml_editor.specs.Making.{HasNames, IsMade, IsMany, TellsRow};
 ghost use Rattle.toml_editor.specs.SpelledEdits.{AreSpelled, IsSpelled};
@@ -197,12 +197,10 @@ fn write_insert<'x>(
 ) -> Result<bool, AllocError>
     requires { HasNames read }
     ensures rest { OnOk result (KeepsRest tree.old tree.new) }
-    ensures insert { let read_here = read_of read.entry.before in
-        OnOk result (WritesInsert read.entry.profile read_here at.now value.now steps.now tree.old tree.new) }
+    ensures line { let read_here = read_of read.entry.before in
+        OnOk result (WritesLine read.entry.profile read_here at.now value.now steps.now tree.old tree.new) }
     ensures inside { let read_here = read_of read.entry.before in
         IfOk result (WritesInside read.entry.profile read_here at.now value.now steps.now tree.old tree.new) }
-    ensures below { let read_here = read_of read.entry.before in
-        OnOk result (WritesBelow read.entry.profile read_here at.now value.now steps.now tree.old tree.new) }
     ensures element { IfOk result (WritesNoElement read.entry.profile (read_of read.entry.before) at.now value.now tree.old) }
 {
     match open_value(alloc, value, read.profile)? {

@@ -2,7 +2,7 @@ use Rattle.std.proofs.Common.{◌∙◌, subst, subst₂}
 use Rattle.std.proofs.lemmas.Result.{IfOk-weaker}
 use Rattle.toml_edits.specs.Edits.{change}
 use Rattle.toml_layout.specs.declared.tree.Brackets.TheVariants.{One, Two}
-use Rattle.toml_editor.specs.Exact.{WritesBelow, WritesHeader, WritesInsert, WritesInside, WritesNoElement, WritesSet}
+use Rattle.toml_editor.specs.Exact.{WritesHeader, WritesInside, WritesLine, WritesNoElement, WritesSet}
 use Rattle.toml_working.specs.HeldLines.{TakesFromValue}
 use Rattle.toml_working.specs.RemovingIn.{RemovesLines, TakesElement}
 use Rattle.toml_working.specs.RemovingTables.{RemovesTable}
@@ -56,17 +56,14 @@ returns-in-Insert c =
       steps,
       made.0,
       spelled,
-      subst₂ (λ a t. WritesInsert profile read a t steps old new) (at whole) c.as_str-in-Insert.ensures.value
-          (subst (λ ss. WritesInsert profile read c.in_ok-at.at c.as_str-in-Insert.result.now ss old new) c.deref.ensures.value made.1.0),
+      subst₂ (λ a t. WritesLine profile read a t steps old new) (at whole) c.as_str-in-Insert.ensures.value
+          (subst (λ ss. WritesLine profile read c.in_ok-at.at c.as_str-in-Insert.result.now ss old new) c.deref.ensures.value made.1.0),
       subst₂ (λ a t. WritesInside profile read a t steps old new done) (at whole) c.as_str-in-Insert.ensures.value
           (subst (λ ss. WritesInside profile read c.in_ok-at.at c.as_str-in-Insert.result.now ss old new done) c.deref.ensures.value made.1.1.0),
-      subst₂ (λ a t. WritesBelow profile read a t steps old new) (at whole) c.as_str-in-Insert.ensures.value
-          (subst (λ ss. WritesBelow profile read c.in_ok-at.at c.as_str-in-Insert.result.now ss old new) c.deref.ensures.value made.1.1.1.0),
-      subst₂ (λ a t. WritesNoElement profile read a t old done) (at whole) c.as_str-in-Insert.ensures.value made.1.1.1.1,
+      subst₂ (λ a t. WritesNoElement profile read a t old done) (at whole) c.as_str-in-Insert.ensures.value made.1.1.1,
     ))
-    (if_ok_with _ _ result c.write_insert.ensures.rest (if_ok_with _ _ result c.write_insert.ensures.insert
-    (if_ok_both _ _ result c.write_insert.ensures.inside
-    (if_ok_with _ _ result c.write_insert.ensures.below c.write_insert.ensures.element)))))
+    (if_ok_with _ _ result c.write_insert.ensures.rest (if_ok_with _ _ result c.write_insert.ensures.line
+    (if_ok_both _ _ result c.write_insert.ensures.inside c.write_insert.ensures.element))))
 
 pub returns-in-Section : goal.returns-in-Section
 returns-in-Section c =

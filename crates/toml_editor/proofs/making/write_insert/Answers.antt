@@ -1,5 +1,5 @@
 use Rattle.std.proofs.Common.{◌≡◌, [], ◌∷◌, ◌++◌, inl, inr, refl, sym, ap, ap₂, ◌∙◌, subst, subst₂}
-use Rattle.std.proofs.lemmas.Result.{IfOk-weaker, on_ok_weaker}
+use Rattle.std.proofs.lemmas.Result.{IfOk-weaker}
 use Rattle.toml_names.specs.declared.model.address.Step.{Step}
 use Rattle.toml_names.specs.model.Addresses.{Address}
 use Rattle.toml_tree.proofs.Proved.{one_value}
@@ -11,20 +11,8 @@ use Rattle.toml_working.specs.Putting.{InsertsLines, manner}
 use Rattle.toml_working.specs.InTables.{TreePutsIn}
 use Rattle.toml_working.specs.Starting.{read_of}
 use Rattle.toml_layout.specs.TreeOutlines.{value_outline}
+use Rattle.toml_editor.proofs.Answered.{on_ok_two}
 use Rattle.toml_editor.proofs.making.write_insert.Goals as goal
-
-pub returns-in_ok-named-in-Some-clause-insert : goal.returns-in_ok-named-in-Some-clause-insert
-returns-in_ok-named-in-Some-clause-insert c =
-    let old = c.args.tree.now in
-    let (w, of_text, outlined) = subst (OpensText c.args.read.profile c.args.value.now) c.in-Some.is c.in_ok-new.ensures in
-    on_ok_weaker c.insert.result
-    (λ inserts within v is.
-    subst (λ o. InsertsLines c.args.at.now c.args.steps.now o (manner old) (text_of old.texts.source) (read_of c.args.read.before) old.slots.items c.insert.new.self.slots.items)
-    (outlined ∙ ap value_outline (one_value w v 0 c.args.value.now of_text.0 is.0)) inserts)
-    c.insert.ensures.root
-
-pub returns-in-None-clause-insert : goal.returns-in-None-clause-insert
-returns-in-None-clause-insert c within v is = absurd (subst (OpensText c.args.read.profile c.args.value.now) c.in-None.is c.in_ok-new.ensures within v is)
 
 -- the address without its last step is one
 last_is : (q r : Address) (x y : Step) → q ++ x ∷ [] ≡ r ++ y ∷ [] → q ≡ r
@@ -64,22 +52,31 @@ returns-in_ok-named-in-Some-clause-inside c =
 pub returns-in-None-clause-inside : goal.returns-in-None-clause-inside
 returns-in-None-clause-inside c within v is = absurd (subst (OpensText c.args.read.profile c.args.value.now) c.in-None.is c.in_ok-new.ensures within v is)
 
-pub returns-in_ok-named-in-Some-clause-below : goal.returns-in_ok-named-in-Some-clause-below
-returns-in_ok-named-in-Some-clause-below c =
+pub returns-in_ok-named-in-Some-clause-line : goal.returns-in_ok-named-in-Some-clause-line
+returns-in_ok-named-in-Some-clause-line c =
     let old = c.args.tree.now in
     let p = c.args.at.now in
     let read = read_of c.args.read.before in
     let steps = c.args.steps.now in
+    let new = c.insert.new.self in
     let (w, of_text, outlined) = subst (OpensText c.args.read.profile c.args.value.now) c.in-Some.is c.in_ok-new.ensures in
-    on_ok_weaker c.insert.result
-    (λ puts within v is q last split.
-    subst₂ (λ r o. TreePutsIn r p steps o read old c.insert.new.self)
-    (parent_is p q c.in_ok-parent-in-Some.parent last c.in_ok-parent-in-Some.ensures split)
-    (outlined ∙ ap value_outline (one_value w v 0 c.args.value.now of_text.0 is.0)) puts)
-    c.insert.ensures.below
+    on_ok_two _ _ _ c.insert.result
+    (λ inserts puts. record {
+      root = λ within v is.
+          subst (λ o. InsertsLines p steps o (manner old) (text_of old.texts.source) read old.slots.items new.slots.items)
+          (outlined ∙ ap value_outline (one_value w v 0 c.args.value.now of_text.0 is.0)) inserts;
+      below = λ within v is q last split.
+          subst₂ (λ r o. TreePutsIn r p steps o read old new)
+          (parent_is p q c.in_ok-parent-in-Some.parent last c.in_ok-parent-in-Some.ensures split)
+          (outlined ∙ ap value_outline (one_value w v 0 c.args.value.now of_text.0 is.0)) puts;
+    })
+    c.insert.ensures.root c.insert.ensures.below
 
-pub returns-in-None-clause-below : goal.returns-in-None-clause-below
-returns-in-None-clause-below c within v is = absurd (subst (OpensText c.args.read.profile c.args.value.now) c.in-None.is c.in_ok-new.ensures within v is)
+pub returns-in-None-clause-line : goal.returns-in-None-clause-line
+returns-in-None-clause-line c = record {
+  root = λ within v is. absurd (subst (OpensText c.args.read.profile c.args.value.now) c.in-None.is c.in_ok-new.ensures within v is);
+  below = λ within v is. absurd (subst (OpensText c.args.read.profile c.args.value.now) c.in-None.is c.in_ok-new.ensures within v is);
+}
 
 pub returns-in_ok-named-in-Some-clause-element : goal.returns-in_ok-named-in-Some-clause-element
 returns-in_ok-named-in-Some-clause-element c =
