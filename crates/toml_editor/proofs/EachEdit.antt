@@ -9,15 +9,16 @@ use Rattle.toml_tree.specs.declared.profile.Profile.{Profile}
 use Rattle.toml_tree.proofs.Proved.{one_tree}
 use Rattle.toml_names.specs.declared.model.address.Step.{Step}
 use Rattle.toml_names.specs.declared.model.address.Step.TheVariants.{Index, Name}
-use Rattle.toml_names.specs.mentions.Mentions.{Kind, a_scalar, a_table, an_array, named}
-use Rattle.toml_names.specs.model.Addresses.{Address, child, element}
+use Rattle.toml_names.specs.mentions.Mentions.{Kind, Named, a_scalar, a_table, an_array, named}
+use Rattle.toml_names.specs.mentions.Joining.{is_lone}
+use Rattle.toml_names.specs.model.Addresses.{Address, child, element, same_address}
 use Rattle.toml_names.specs.model.Data.{Kinds}
 use Rattle.toml_names.proofs.Proved.{same_address-decides}
 use Rattle.toml_edits.specs.declared.fault.EditFault.TheVariants.{NotAName, NotAnElement, NotATable, RootNamed}
 use Rattle.toml_edits.specs.Edits as edits
 use Rattle.toml_edits.specs.Edits.{Change}
 use Rattle.toml_edits.specs.Faults.{IsFault}
-use Rattle.toml_working.specs.Premises.{IsInNoValue}
+use Rattle.toml_working.specs.Premises.{HasValue, IsInNoValue}
 use Rattle.toml_working.specs.RemoveStanding.{is_pair, is_value_at}
 use Rattle.toml_working.specs.Standing.{Standing, holds, leads_to, standing}
 use Rattle.toml_editor.specs.EachEdit.{EachEditIsTold}
@@ -31,7 +32,7 @@ use Rattle.toml_editor.proofs.written.HeldElements.{element_held}
 use Rattle.toml_editor.proofs.written.HeldTables.{name_held, table_held}
 use Rattle.toml_editor.proofs.written.LoneElements.{lone_element}
 use Rattle.toml_editor.proofs.written.OnlyElement.{element_in_no_value}
-use Rattle.toml_editor.proofs.written.Pairwise.{Has, has_of_any, has_weaker, taken}
+use Rattle.toml_editor.proofs.written.Pairwise.{Has, any_of_has, has_of_any, has_weaker, taken}
 use Rattle.toml_editor.proofs.written.ScalarsLone.{is_there}
 use Rattle.toml_editor.proofs.written.StandingHas.{or_left, or_right}
 use Rattle.toml_editor.proofs.written.StandingOrder.{begins_is}
@@ -43,6 +44,27 @@ use Rattle.toml_editor.proofs.written.ValuesAbove.{IsOver, value_over}
 tested : (b : Bool) → (b ≡ true) ⊎ (b ≡ false)
 tested true = inl refl
 tested false = inr refl
+
+-- a value of its own is named at the address, or none is
+value_or_none : (p : Address) (ms : List Named) → Has (λ m. (m.address ≡ p) × (is_lone m.role ≡ true)) ms ⊎ (¬ Has (λ m. (m.address ≡ p) × (is_lone m.role ≡ true)) ms)
+value_or_none p [] = inr (λ none. none)
+value_or_none p (m ∷ ms) = by (tested (same_address m.address p)) (tested (is_lone m.role)) (value_or_none p ms)
+  where
+    Is : Named → Type 0
+    Is n = (n.address ≡ p) × (is_lone n.role ≡ true)
+
+    by : (same_address m.address p ≡ true) ⊎ (same_address m.address p ≡ false) → (is_lone m.role ≡ true) ⊎ (is_lone m.role ≡ false)
+        → Has Is ms ⊎ (¬ Has Is ms) → Has Is (m ∷ ms) ⊎ (¬ Has Is (m ∷ ms))
+    by at lone (inl later) = inl (inr later)
+    by (inl same) (inl lone) (inr later) = inl (inl ((same_address-decides m.address p).0 same, lone))
+    by (inr other) lone (inr later) = inr (λ there. elim there [
+      | inl here ↦ true≢false (sym ((same_address-decides m.address p).1 here.0) ∙ other)
+      | inr behind ↦ later behind
+    ])
+    by (inl same) (inr many) (inr later) = inr (λ there. elim there [
+      | inl here ↦ true≢false (sym here.1 ∙ many)
+      | inr behind ↦ later behind
+    ])
 
 -- no line's value stands at the root or above it
 not_root : (q : Address) (lines : List Line) → list_any (holds q) (standing lines) ≡ true → ¬ (q ≡ [])
@@ -100,8 +122,11 @@ module _ (profile : Profile) (text : List ℕ) (kinds : Kinds) (good : IsGoodTex
       by (Some k) at have =
           has_weaker (λ m. (m.address ≡ a) × (m.kind ≡ k)) (λ m. m.address ≡ a) (λ m fact. fact.0) (named lines) (has_of_any _ (named lines) ((good.facts a k).0 at))
 
-  set_told : (p : Address) (value : List ℕ) → ¬ ¬ IsTold (edits.set p value)
-  set_told p value other = other (inr (inr (λ d spells has. other (inl (subst (λ (x : Doc). IsPlain x.lines (edits.set p value)) (sym (one_tree good.tree d text good.spelled.0 spells.0)) has)))))
+  set_told : (p : Address) (value : List ℕ) → IsTold (edits.set p value)
+  set_told p value = elim (value_or_none p (named lines)) [
+    | inl there ↦ inl (any_of_has _ (named lines) there)
+    | inr none ↦ inr (inr (on_tree (λ ls. ¬ HasValue ls p) (λ has. none (has_of_any _ (named lines) has))))
+  ]
 
   -- the parent of a new name is a table
   parent_table : (q : Address) (name value : List ℕ) (p : Address) → p ≡ child q name → IsFault profile (edits.insert p value) kinds None → kinds q ≡ Some a_table
@@ -190,13 +215,13 @@ module _ (profile : Profile) (text : List ℕ) (kinds : Kinds) (good : IsGoodTex
       by (inr (q, Name name, own)) = absurd (none NotAnElement (λ r m i other. no_index q r name m i (sym own ∙ other)))
       by (inr (q, Index i, own)) = by_index q i own (tested (list_any (holds q) (standing lines)))
 
-  told : (c : Change) → IsFault profile c kinds None → ¬ ¬ IsTold c
+  told : (c : Change) → IsFault profile c kinds None → IsTold c
   told (edits.set p value) none = set_told p value
-  told (edits.insert p value) none = λ other. other (insert_told p value none)
-  told (edits.rename p to) none = λ other. other (inl tt)
-  told (edits.remove p) none = λ other. other (remove_told p none)
-  told (edits.new_section p) none = λ other. other (section_told p none)
-  told (edits.new_element p) none = λ other. other (element_told p none)
+  told (edits.insert p value) none = insert_told p value none
+  told (edits.rename p to) none = inl tt
+  told (edits.remove p) none = remove_told p none
+  told (edits.new_section p) none = section_told p none
+  told (edits.new_element p) none = element_told p none
 
 pub each_edit_is_told : EachEditIsTold
 each_edit_is_told profile c text kinds good none = told profile text kinds good c none

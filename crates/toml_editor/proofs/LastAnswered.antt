@@ -44,15 +44,6 @@ use Rattle.toml_editor.proofs.PlainRefused.{good, only_refused_is_told}
 use Rattle.toml_editor.proofs.written.StandingOrder.{rules_order}
 use Rattle.toml_editor.proofs.written.Steps.{one_list_written}
 
--- texts that cannot differ are the same
-same_text : (one two : List ℕ) → ¬ ¬ (one ≡ two) → one ≡ two
-same_text one two alike = by (same_address (Name one ∷ []) (Name two ∷ [])) refl
-  where
-    by : (b : Bool) → same_address (Name one ∷ []) (Name two ∷ []) ≡ b → one ≡ two
-    by true is = let same : ◌≡◌ {A = Address} (Name one ∷ []) (Name two ∷ []) = (same_address-decides (Name one ∷ []) (Name two ∷ [])).0 is in cc
-    by false is =
-        absurd (alike (λ same. true≢false (sym ((same_address-decides (Name one ∷ []) (Name two ∷ [])).1 (ap (λ (t : List ℕ). Name t ∷ []) same)) ∙ is)))
-
 get_last : (front : List Change) (c : Change) → slice_get (front ++ c ∷ []) (length front) ≡ Some c
 get_last [] c = refl
 get_last (d ∷ front) c = get_last front c
@@ -117,8 +108,7 @@ module _ (layout : Layout) (profile : Profile) (before : List ℕ) (front : List
   one_text : IsFault profile c mid None → ¬ IsRefusedIn profile between c → (one two : List ℕ) → IsTextOf layout profile before cs one
       → IsTextOf layout profile before cs two → one ≡ two
   one_text none unrefused one two first second =
-      same_text one two (λ differ. each_edit_is_told profile c between mid (good layout profile before cs (length front) between mid so_far) none
-      (λ told. differ (elim told [
+      elim (each_edit_is_told profile c between mid (good layout profile before cs (length front) between mid so_far) none) [
         | inl plain ↦ one_list_written profile cs manner before one two (plain_text plain one first.plain) (plain_text plain two second.plain)
         | inr (inl change) ↦
             let (here, makes, is) = changed_text change one first.last in
@@ -129,7 +119,7 @@ module _ (layout : Layout) (profile : Profile) (before : List ℕ) (front : List
             (rules_order e.lines (good layout profile before cs (length front) between mid so_far).good.0) makes makes_too)
             ∙ sym is_too
         | inr (inr refused) ↦ absurd (unrefused refused)
-      ])))
+      ]
 
   -- ---- answers
 

@@ -14,14 +14,14 @@ use Rattle.toml_editor.specs.Steps.{IsGoodText, IsPlain}
 use Rattle.toml_editor.specs.declared.fault.EditorFault.{EditorFault}
 use Rattle.toml_editor.specs.declared.fault.EditorFault.TheVariants.{NoMemory}
 
--- Law: on a good text it is plain, or makes one change of which `WritesLast` tells the text, or is refused. That none of these holds is
--- impossible.
+-- Law: on a good text it is plain, or makes one change of which `WritesLast` tells the text, or is refused; the removal of an only element is both
+-- of the last.
 abbrev pub EachEditIsTold : Type 0
 EachEditIsTold = (profile : Profile) (c : Change) (text : List ℕ) (kinds : Kinds) (good : IsGoodText profile text kinds) → IsFault profile c kinds None
-    → ¬ ¬ (IsPlain good.tree.lines c ⊎ (IsOneChange good.tree.lines c ⊎ IsRefusedIn profile text c))
+    → IsPlain good.tree.lines c ⊎ (IsOneChange good.tree.lines c ⊎ IsRefusedIn profile text c)
 
--- Law: where the edits before the last one have no fault on a document and are plain, and the last one has none and is not refused, two texts
--- of which it is told what these edits make are the same.
+-- Law: where the edits before the last one have no fault on a document and are plain, and the last one has none and is not refused, there is at
+-- most one text of which `IsTextOf` holds.
 abbrev pub LastHasOneText : Type 0
 LastHasOneText = (layout : Layout) (profile : Profile) (before : List ℕ) (front : List Change) (c : Change) (between : List ℕ) (mid : Kinds)
     → PlainSoFar layout profile before (front ++ c ∷ []) (length front) between mid → IsFault profile c mid None → ¬ IsRefusedIn profile between c

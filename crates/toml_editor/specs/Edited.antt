@@ -35,7 +35,7 @@ NamesOuter before cs ps = OfTree before (λ d. (i : ℕ) → IsFirst ps i ↔ Is
 
 -- The text is certified to be what the edits make of the first one, by pairs that name the outer protected units. Of plain edits it is
 -- the one that they write in the layout, and none of the edits, where those before it are plain, is refused (`IsRefusedIn`). Of a last edit
--- behind plain ones, which changes an array or an inline table in the value of a line, it is told what is written.
+-- behind plain ones, which changes an array or an inline table in the value of a line, or removes a table, it is told what is written.
 pub record IsEditedWith (layout : Layout) (profile : Profile) (before : List ℕ) (cs : List Change) (after : List ℕ) (ps : List (ℕ × ℕ)) : Type 0
   where
     pub certified : Certified profile before cs after ps
@@ -110,8 +110,8 @@ AreDefinedOn profile before cs = IsDocumentIn profile before × OfData before (A
 -- place is spread, or that it takes a last element: that it is defined on these data, and if those before it are plain, it is not plain, and
 -- no array and no inline table in the value of a line holds what it puts in or takes out. That the result is too long: all edits are
 -- defined, and the text is longer. That the judge refuses it: all edits are defined, the list is not one of plain edits, and the reason is the
--- first demand that no certificate meets of the text. Where all edits before the last one are plain, this text is one (`IsTextOf`); of others
--- `certify` alone says which it is, and `AfterRefused` can always be told, by the text `=`. And each time that no edit before, or of the list,
+-- first demand that no certificate meets of the text. Where all edits before the last one are plain, there is one such text (`IsTextOf`); of
+-- others `certify` alone says which it is, and `AfterRefused` can always be told, by the text `=`. And each time that no edit before, or of the list,
 -- is refused (`IsRefusedIn`), if those before it are plain. Of want of memory: nothing.
 abbrev pub TellsWith : Layout → Profile → List ℕ → List Change → EditorFault → Type 0
 TellsWith layout profile before cs (Edit index fault) =

@@ -11,7 +11,7 @@ use Rattle.toml_editor.specs.Exact.{DoneAll, DoneOne, IsNeitherOn, OfNoPlaceAt, 
 use Rattle.toml_editor.specs.Making.{IsMade, TellsAny, TellsOne}
 use Rattle.toml_working.specs.Starting.{read_of}
 
--- the edit is made on the data, and where it is plain on the working tree; it is not refused (`IsRefusedIn`)
+-- the edit is made on the data, and where it is plain, or makes one change, on the working tree; it is not refused (`IsRefusedIn`)
 pub record MakesEdit (read : Read) (c : Change) (old new : Draft) (before after : Tree) : Type 0 where
   pub applied : IsMade read.profile c old new
   pub done : DoneOne read.profile (read_of read.before) (drafted old) c before after

@@ -85,7 +85,7 @@ pub data AreUnitsInserted (q : Address) (name : List ℕ) (v : Value) (layout : 
   OneLine : (section : Address) → (key : Key) → ¬ (key ≡ []) → child q name ≡ below section key → (s : Spacing) → (layout ≡ layouts.Plain → s ≡ plain_spacing)
       → IsBlockPut (units lines) (pair_line_units (fresh (pair_text s key v)) (child q name) (length section) v None) new
       → AreUnitsInserted q name v layout lines new
-  Both : HasImplied lines q → (ws : List ℕ) → (s : Spacing) → (layout ≡ layouts.Plain → (ws ≡ []) × (s ≡ plain_spacing))
+  Both : ¬ (q ≡ []) → HasImplied lines q → (ws : List ℕ) → (s : Spacing) → (layout ≡ layouts.Plain → (ws ≡ []) × (s ≡ plain_spacing))
       → IsBlockPut (units lines)
       (header_line_units (fresh (header_text One ws q)) q ++ pair_line_units (fresh (pair_text s (name ∷ []) v)) (child q name) (length q) v None) new
       → AreUnitsInserted q name v layout lines new

@@ -273,7 +273,8 @@ pub fn one_change()
 {}
 
 /// An edit without a fault on a good text is plain, makes such a change, or is refused. So where all edits before the last one are plain, there
-/// is one text that they make, and want of memory aside one answer: the text with its certificate, or the fault. This is so of each single edit.
+/// is at most one text that they make, and one answer: the text with its certificate, or the fault. This is so of each single edit. The answer:
+/// want of memory aside, below 2^63 edits, and of an `insert` where no index in the data is so great that it could not rise.
 pub fn each_edit()
     ensures told { EachEditIsTold }
     ensures text { LastHasOneText }

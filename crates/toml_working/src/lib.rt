@@ -25,6 +25,7 @@ mod seen;
 mod setting;
 mod starting;
 mod steps;
+mod taking;
 mod working;
 mod writing;
 

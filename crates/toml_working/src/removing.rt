@@ -1,12 +1,11 @@
 //! `remove`: elements and pairs in a value, and lines.
-ghost use Rattle.std.specs.Prelude.{◌≡◌, ◌∷◌, [], IfOk, OnOk, true};
+ghost use Rattle.std.specs.Prelude.{◌≡◌, IfOk, OnOk, true};
 ghost use Rattle.std.specs.List.{list_any};
-ghost use Rattle.toml_layout.specs.KnownLines.{lines_known};
 ghost use Rattle.toml_working.specs.HeldLines.{TakesFromValue};
 ghost use Rattle.toml_working.specs.Parents.{IsParent};
 ghost use Rattle.toml_working.specs.RemoveStanding.{makes_apart};
-ghost use Rattle.toml_working.specs.RemovingBelow.{EndsBelow, KeepsOthers, LeavesBelow, MeetsBelow, RemovesBelow, RemovesTogether, StaysBehindSlot, TellsAny, TellsEnd, TellsLeft, is_later_line};
-ghost use Rattle.toml_working.specs.RemovingIn.{LeavesBehind, LeavesElements, LeavesLines, LeavesSlot, LeavesSlots, RemovesLines, SlotTellsMaker, TakesElement, TakesOutLine, TellsMaker, TellsStays, lines_of};
+ghost use Rattle.toml_working.specs.RemovingBelow.{KeepsOthers, RemovesBelow, RemovesTogether, TellsLeft};
+ghost use Rattle.toml_working.specs.RemovingIn.{LeavesElements, RemovesLines, SlotTellsMaker, TakesElement, TakesOutLine, TellsMaker, TellsStays};
 ghost use Rattle.toml_working.specs.RemovingTables.{RemovesTable};
 ghost use Rattle.toml_working.specs.Seeing.{IsSoughtAt};
 ghost use Rattle.toml_working.specs.Starting.{read_of};
@@ -16,19 +15,19 @@ ghost use Rattle.toml_working.specs.declared.lines.Sought.TheVariants.{Holder};
 
 use crate::lines::{Line, Slot};
 use crate::steps::is_element;
+use crate::taking::{remove_in, remove_in_slots};
 use crate::working::{Before, Position, Tree};
 use std::alloc::{AllocError, Global};
-use std::mem;
-use toml_layout::{Inside, KnownLine, Texts};
+use toml_layout::Inside;
 use toml_names::{Address, Place, Step};
 use toml_units::Unit;
 
 /// What is left of the first removed line that makes the parent, where no line that stays makes it.
 #[derive(Drop)]
-struct Parent {
-    address: Address,
+pub(crate) struct Parent {
+    pub(crate) address: Address,
     /// It is left already.
-    stays: bool,
+    pub(crate) stays: bool,
 }
 
 impl<'x> Tree<'x> {
@@ -206,57 +205,6 @@ impl<'x> Tree<'x> {
 }
 
 impl<'t> Slot<'t> {
-    /// Takes out its lines at the address and below; `is_met` says whether there was one, in it or before it. It answers whether its own
-    /// lines tell that there is none behind it.
-    fn remove_below(
-        &mut self,
-        texts: Texts<'t>,
-        before: Before<'_, 't>,
-        at: &Address,
-        flat: bool,
-        is_met: &mut bool,
-        parent: &mut Parent,
-    ) -> Result<bool, AllocError>
-        ensures address { parent.new.address ≡ parent.old.address }
-        ensures meets { MeetsBelow at.now before.entry.units.now is_met.old self.old is_met.new }
-        ensures slot { let old = parent.old in
-            OnOk result (LeavesSlot texts.entry (read_of before.entry) at.now old.address old.stays self.old self.new) }
-        ensures stays { let old = parent.old in let new = parent.new in
-            OnOk result (StaysBehindSlot texts.entry (read_of before.entry) at.now old.address old.stays new.stays self.old) }
-        ensures ends { IfOk result (λ ends. ends ≡ true → EndsBelow at.now before.entry.units.now flat is_met.old self.old) }
-    {
-        if self.is_below(before.units, at) {
-            *is_met = true;
-            let ends = self.begins_later(before.units, at);
-            self.remove(texts, before, at, parent)?;
-            return Ok(ends);
-        }
-        Ok(*is_met && self.ends(before.units, at, flat))
-    }
-
-    /// Whether no line behind it is at the address or below, since such a line was met before it, and one of its own is the header of a
-    /// later element of the array; or any header, where it has no such line and all of them stand in one section.
-    fn ends<'a>(&'a self, units: &'a [Unit], at: &Address, in_section: bool) -> bool
-        ensures { TellsEnd at.now units.now in_section self.now result }
-    {
-        (in_section && self.has_header(units)) || self.begins_later(units, at)
-    }
-
-    /// Whether one of its lines is the header of a later element of the array.
-    fn begins_later<'a>(&'a self, units: &'a [Unit], at: &Address) -> bool
-        ensures { TellsAny (is_later_line at.now) units.now self.now result }
-    {
-        for index in 0..self.count() {
-            let Some(line) = self.seen(units, index) else {
-                return false;
-            };
-            if line.begins_later(at) {
-                return true;
-            }
-        }
-        false
-    }
-
     /// Whether a line of it that is not at the other address, nor below it, makes what is at the address.
     fn is_made(&self, units: &[Unit], address: &Address, other: &Address) -> bool
         ensures { SlotTellsMaker address.now other.now units.now self.now result }
@@ -264,27 +212,6 @@ impl<'t> Slot<'t> {
         match self {
             Slot::Kept(kept) => kept.seen(units).makes_beside(address, other),
             Slot::Lines(lines) => is_any_made(lines, address, other),
-        }
-    }
-
-    /// Takes out its lines at the address and below.
-    fn remove(
-        &mut self,
-        texts: Texts<'t>,
-        before: Before<'_, 't>,
-        at: &Address,
-        parent: &mut Parent,
-    ) -> Result<(), AllocError>
-        ensures address { parent.new.address ≡ parent.old.address }
-        ensures slot { let old = parent.old in
-            OnOk result (LeavesSlot texts.entry (read_of before.entry) at.now old.address old.stays self.old self.new) }
-        ensures stays { let old = parent.old in let new = parent.new in
-            OnOk result (StaysBehindSlot texts.entry (read_of before.entry) at.now old.address old.stays new.stays self.old) }
-    {
-        self.open(texts.alloc, before.units)?;
-        match self {
-            Slot::Lines(lines) => remove_from(lines, texts, before.known, at, parent),
-            Slot::Kept(_) => Ok(()),
         }
     }
 }
@@ -325,111 +252,6 @@ fn is_made_in(slots: &[Slot<'_>], units: &[Unit], address: &Address, other: &Add
         }
     }
     false
-}
-
-/// Takes out the lines of the slot at the address and below, if there is such a slot.
-fn remove_in<'t>(
-    slots: &mut Vec<Slot<'t>>,
-    texts: Texts<'t>,
-    before: Before<'_, 't>,
-    slot: usize,
-    at: &Address,
-    parent: &mut Parent,
-) -> Result<(), AllocError>
-    ensures { let old = parent.old in
-        OnOk result (LeavesSlots texts.entry (read_of before.entry) at.now old.address old.stays slot slots.old.items slots.new.items) }
-{
-    match slots.get_mut(slot) {
-        Some(lines) => lines.remove(texts, before, at, parent),
-        None => Ok(()),
-    }
-}
-
-/// Takes out the lines of the slots at the address and below. No slot before the first one here has such a line.
-fn remove_in_slots<'t>(
-    slots: &mut Vec<Slot<'t>>,
-    texts: Texts<'t>,
-    before: Before<'_, 't>,
-    first: usize,
-    at: &Address,
-    flat: bool,
-    parent: &mut Parent,
-) -> Result<(), AllocError>
-    ensures { let old = parent.old in
-        OnOk result (LeavesBelow texts.entry (read_of before.entry) at.now flat first old.address old.stays slots.old.items slots.new.items) }
-{
-    let mut is_met = false;
-    for index in first..slots.len() {
-        if let Some(slot) = slots.get_mut(index) {
-            if slot.remove_below(texts, before, at, flat, &mut is_met, parent)? {
-                return Ok(());
-            }
-        }
-    }
-    Ok(())
-}
-
-/// Takes out the lines at the address and below.
-fn remove_from<'t>(
-    lines: &mut Vec<Line<'t>>,
-    texts: Texts<'t>,
-    known: &[KnownLine<'t>],
-    at: &Address,
-    parent: &mut Parent,
-) -> Result<(), AllocError>
-    ensures address { parent.new.address ≡ parent.old.address }
-    ensures lines { let old = parent.old in let new = parent.new in
-        OnOk result (LeavesLines texts.entry (lines_known known.now) at.now old.address old.stays new.stays lines.old.items lines.new.items) }
-{
-    let old = mem::replace(lines, Vec::new(texts.alloc));
-    for line in old {
-        if let Some(left) = left_of(texts, known, line, at, parent)? {
-            lines.push(left)?;
-        }
-    }
-    Ok(())
-}
-
-/// What is left of a line once what stands at the address and below is taken out.
-fn left_of<'t>(
-    texts: Texts<'t>,
-    known: &[KnownLine<'t>],
-    line: Line<'t>,
-    at: &Address,
-    parent: &mut Parent,
-) -> Result<Option<Line<'t>>, AllocError>
-    ensures parent { parent.new.address ≡ parent.old.address }
-    ensures left { let old = parent.old in let new = parent.new in
-        IfOk result (λ left. LeavesLines texts.entry (lines_known known.now) at.now old.address old.stays new.stays (line.entry ∷ []) (lines_of left)) }
-{
-    if line.seen().is_below(at) {
-        removed(texts, known, line, parent)
-    } else {
-        Ok(Some(line))
-    }
-}
-
-/// What is left of a removed line: its parent as an empty table, or of the last line one of no bytes.
-fn removed<'t>(
-    texts: Texts<'t>,
-    known: &[KnownLine<'t>],
-    line: Line<'t>,
-    parent: &mut Parent,
-) -> Result<Option<Line<'t>>, AllocError>
-    ensures parent { parent.new.address ≡ parent.old.address }
-    ensures left { let old = parent.old in let new = parent.new in
-        IfOk result (λ left. LeavesBehind texts.entry (lines_known known.now) old.address old.stays new.stays line.entry left) }
-{
-    if !parent.stays && line.seen().makes(&parent.address) {
-        parent.stays = true;
-        let mut line = line;
-        line.stand_for(texts, known, &parent.address)?;
-        return Ok(Some(line));
-    }
-    if line.is_last() {
-        return Ok(Some(Line::empty(texts.alloc)?));
-    }
-    Ok(None)
 }
 
 /// The address without its last step.

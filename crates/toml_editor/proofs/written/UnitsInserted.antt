@@ -173,7 +173,7 @@ module _ (q : Address) (name : List ℕ) (v : Value) (style ws : List ℕ) (s : 
 pub data IsPutIn (q : Address) (name : List ℕ) (v : Value) (manner : Manner) (lines new : List Line) : Type 0 where
   PutLine : (at : Address) → (first : List ℕ) → (rest : Key) → child q name ≡ below at (first ∷ rest) → (s : Spacing) → (manner.layout ≡ layouts.Plain → s ≡ plain_spacing)
       → IsPutWell (AreLines lines) (units lines) (block at first rest v s) (units new) (newlines lines) (newlines new) → IsPutIn q name v manner lines new
-  PutBoth : HasImplied lines q → (ws : List ℕ) → (s : Spacing) → (manner.layout ≡ layouts.Plain → (ws ≡ []) × (s ≡ plain_spacing))
+  PutBoth : ¬ (q ≡ []) → HasImplied lines q → (ws : List ℕ) → (s : Spacing) → (manner.layout ≡ layouts.Plain → (ws ≡ []) × (s ≡ plain_spacing))
       → IsPutWell (AreLines lines) (units lines) (both_blocks q name v [] ws s) (units new) (newlines lines) (newlines new) → IsPutIn q name v manner lines new
 
 module _ (q : Address) (name : List ℕ) (v : Value) (manner : Manner) where
@@ -199,7 +199,7 @@ module _ (q : Address) (name : List ℕ) (v : Value) (manner : Manner) where
           → has_pair back ≡ false → IsPutIn q name v manner lines new
       by [] some was is unkeyed = absurd (some refl)
       by (m ∷ ms) some was is unkeyed =
-          PutBoth implied put.ws put.spacing put.plain
+          PutBoth put.not_root implied put.ws put.spacing put.plain
           (subst₂ (λ ls ms. IsPutWell (AreLines lines) (units ls) (both_blocks q name v manner.newline put.ws put.spacing) (units ms) (newlines ls) (newlines ms)) (sym was) (sym is)
           (put_among (AreLines lines) (both_blocks q name v manner.newline put.ws put.spacing) m ms
           (header_line One q put.ws manner.newline ∷ new_line put.spacing (name ∷ []) v manner.newline ∷ m ∷ ms) []
@@ -215,5 +215,5 @@ pub insert_units : InsertUnits
 insert_units q name v manner lines there = elim (puts_lines q name v manner lines there) [
   | PutLine at first rest same s plain well ↦
       OneLine at (first ∷ rest) (λ e. cc) same s plain (subst (λ a. IsBlockPut (units lines) (pair_line_units (fresh (pair_text s (first ∷ rest) v)) a (length at) v None) (units (insert_in q name v manner lines))) (sym same) well.put)
-  | PutBoth implied ws s plain well ↦ Both implied ws s plain well.put
+  | PutBoth not_root implied ws s plain well ↦ Both not_root implied ws s plain well.put
 ]

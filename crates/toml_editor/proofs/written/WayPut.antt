@@ -263,5 +263,5 @@ insert_way q name text v manner lines there formed = by (puts_lines q name v man
         line_way q name text v (fresh (pair_text s (first ∷ rest) v)) (length at) lines edited formed
         (subst (λ a. IsPutWell (AreLines lines) (units lines) (pair_line_units (fresh (pair_text s (first ∷ rest) v)) a (length at) v None) (units edited) (newlines lines) (newlines edited))
         (sym same) well)
-    by (PutBoth implied ws s plain well) =
+    by (PutBoth not_root implied ws s plain well) =
         both_way q name text v (fresh (pair_text s (name ∷ []) v)) (length q) (fresh (header_text One ws q)) lines edited formed well

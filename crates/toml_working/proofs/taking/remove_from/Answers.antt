@@ -5,7 +5,7 @@ use Rattle.toml_layout.specs.KnownLines.{lines_known}
 use Rattle.toml_working.specs.declared.lines.Line.{Line}
 use Rattle.toml_working.specs.RemovingIn.{LeavesLines, lines_of}
 use Rattle.toml_working.proofs.Removed.{more_left}
-use Rattle.toml_working.proofs.removing.remove_from.Goals as goal
+use Rattle.toml_working.proofs.taking.remove_from.Goals as goal
 
 pub loop-line-preserved-in-Continue-branch-3 : goal.loop-line-preserved-in-Continue-branch-3
 loop-line-preserved-in-Continue-branch-3 c =

@@ -4,8 +4,8 @@ use Rattle.toml_layout.specs.KnownLines.{lines_known}
 use Rattle.toml_working.specs.RemoveStanding.{makes}
 use Rattle.toml_working.specs.Seeing.{Found}
 use Rattle.toml_working.proofs.Removed.{goes_by_line, last_leaves, other_leaves, stood_for}
-use Rattle.toml_working.proofs.removing.removed.Goals as goal
-use Rattle.toml_working.proofs.removing.removed.Goals.{else-not-parent-via-then-not-parent+else-makes, else-not-parent-via-else-not-parent}
+use Rattle.toml_working.proofs.taking.removed.Goals as goal
+use Rattle.toml_working.proofs.taking.removed.Goals.{else-not-parent-via-then-not-parent+else-makes, else-not-parent-via-else-not-parent}
 
 pub returns-then-makes-clause-left : goal.returns-then-makes-clause-left
 returns-then-makes-clause-left c =

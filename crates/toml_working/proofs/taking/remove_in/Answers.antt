@@ -1,7 +1,7 @@
 use Rattle.std.proofs.Common.{refl}
 use Rattle.std.proofs.lemmas.Result.{on_ok_weaker}
 use Rattle.toml_working.proofs.Turned.{none_turns, one_turns}
-use Rattle.toml_working.proofs.removing.remove_in.Goals as goal
+use Rattle.toml_working.proofs.taking.remove_in.Goals as goal
 
 pub returns-in-Some : goal.returns-in-Some
 returns-in-Some c =

@@ -1,7 +1,7 @@
 use Rattle.std.proofs.Common.{◌≡◌}
 use Rattle.toml_layout.specs.KnownLines.{lines_known}
 use Rattle.toml_working.specs.RemovingIn.{LeavesLines}
-use Rattle.toml_working.proofs.removing.remove_from.Given as goal
+use Rattle.toml_working.proofs.taking.remove_from.Given as goal
 
 abbrev pub invariant-loop-line : goal.invariant-loop-line
 invariant-loop-line l =

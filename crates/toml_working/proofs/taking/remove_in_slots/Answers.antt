@@ -10,8 +10,8 @@ use Rattle.toml_working.specs.Standing.{is_below, slots_standing}
 use Rattle.toml_working.specs.Starting.{read_of}
 use Rattle.toml_working.proofs.BelowOut.{begun, taken_all, taken_as, taken_on, taken_to_end}
 use Rattle.toml_working.proofs.Past.{past_end}
-use Rattle.toml_working.proofs.removing.remove_in_slots.Goals as goal
-use Rattle.toml_working.proofs.removing.remove_in_slots.Goals.{in-Some+in_ok-remove_below+else-branch, in_default}
+use Rattle.toml_working.proofs.taking.remove_in_slots.Goals as goal
+use Rattle.toml_working.proofs.taking.remove_in_slots.Goals.{in-Some+in_ok-remove_below+else-branch, in_default}
 
 pub loop-index-init : goal.loop-index-init
 loop-index-init c kept none =

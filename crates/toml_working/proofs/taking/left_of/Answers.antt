@@ -4,7 +4,7 @@ use Rattle.toml_layout.specs.KnownLines.{lines_known}
 use Rattle.toml_working.specs.Seeing.{Found}
 use Rattle.toml_working.specs.Standing.{lies_below}
 use Rattle.toml_working.proofs.Removed.{below_leaves}
-use Rattle.toml_working.proofs.removing.left_of.Goals as goal
+use Rattle.toml_working.proofs.taking.left_of.Goals as goal
 
 pub returns-then-is_below-clause-left : goal.returns-then-is_below-clause-left
 returns-then-is_below-clause-left c =

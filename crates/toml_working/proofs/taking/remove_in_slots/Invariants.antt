@@ -6,7 +6,7 @@ use Rattle.toml_working.specs.Standing.{is_below, slots_standing}
 use Rattle.toml_working.specs.Starting.{read_of}
 use Rattle.toml_working.specs.Stands.{SlotKept}
 use Rattle.toml_working.proofs.BelowOut.{TakenTo}
-use Rattle.toml_working.proofs.removing.remove_in_slots.Given as goal
+use Rattle.toml_working.proofs.taking.remove_in_slots.Given as goal
 
 abbrev pub invariant-loop-index : goal.invariant-loop-index
 invariant-loop-index l = let read = read_of l.before in let old = l.fn.slots.items in EachIs (SlotKept (text_of l.texts.source) read) old
