@@ -28,9 +28,8 @@ use Rattle.toml_editor.specs.Steps.{IsGoodText, IsPlain}
 use Rattle.toml_editor.proofs.written.Closed.{no_end}
 use Rattle.toml_editor.proofs.written.Counted.{last_or_earlier}
 use Rattle.toml_editor.proofs.written.Fitting.{last_step}
-use Rattle.toml_editor.proofs.written.HeldElements.{element_held}
+use Rattle.toml_editor.proofs.written.HeldArrays.{index_held}
 use Rattle.toml_editor.proofs.written.HeldTables.{name_held, table_held}
-use Rattle.toml_editor.proofs.written.LoneElements.{lone_element}
 use Rattle.toml_editor.proofs.written.OnlyElement.{element_in_no_value}
 use Rattle.toml_editor.proofs.written.Pairwise.{Has, any_of_has, has_of_any, has_weaker, taken}
 use Rattle.toml_editor.proofs.written.ScalarsLone.{is_there}
@@ -177,8 +176,7 @@ module _ (profile : Profile) (text : List ℕ) (kinds : Kinds) (good : IsGoodTex
           → (list_any (holds q) (standing lines) ≡ true) ⊎ (list_any (holds q) (standing lines) ≡ false) → IsTold (edits.remove p)
       by_index q i own over (inl above) =
           inr (inl (inl (subst (HasContainerAt lines) (sym own)
-          (element_held q i lines good.good.0
-          (lone_element q i lines good.good.0 above (there (element q i) (subst (λ a. IsSome (kinds a)) own (is_there profile kinds p none))))))))
+          (index_held q i lines good.good.0 above (there (element q i) (subst (λ a. IsSome (kinds a)) own (is_there profile kinds p none)))))))
       by_index q i own over (inr outside) =
           absurd (true≢false (sym over ∙ ap (λ a. list_any (holds a) (standing lines)) own ∙ element_in_no_value q i lines outside))
 

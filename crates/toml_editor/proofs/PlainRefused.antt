@@ -33,9 +33,7 @@ use Rattle.toml_working.specs.Standing.{holds, standing}
 use Rattle.toml_editor.proofs.PlainAnswers.{here, of_tree}
 use Rattle.toml_editor.proofs.written.Elsewhere.{style_is_newline}
 use Rattle.toml_editor.proofs.written.Fitting.{last_step, unnamed}
-use Rattle.toml_editor.proofs.written.HeldArrays.{array_held}
-use Rattle.toml_editor.proofs.written.HeldElements.{element_held}
-use Rattle.toml_editor.proofs.written.LoneElements.{lone_element}
+use Rattle.toml_editor.proofs.written.HeldArrays.{array_held, index_held}
 use Rattle.toml_editor.proofs.written.Closed.{no_end}
 use Rattle.toml_editor.proofs.written.Pairwise.{Has, has_of_any, has_weaker, taken}
 use Rattle.toml_editor.proofs.written.Steps.{plain_steps}
@@ -188,8 +186,7 @@ module _ (layout : Layout) (profile : Profile) (before : List ℕ) (cs : List Ch
         held : list_any (holds q) (standing lines) ≡ true → HasContainerAt lines p
         held over =
             subst (HasContainerAt lines) (sym own)
-            (element_held q 0 lines good.good.0
-            (lone_element q 0 lines good.good.0 over (there (mid (element q 0)) refl (subst (λ a. IsSome (mid a)) own some))))
+            (index_held q 0 lines good.good.0 over (there (mid (element q 0)) refl (subst (λ a. IsSome (mid a)) own some)))
 
         outside : IsInNoValue lines q
         outside = by (list_any (holds q) (standing lines)) refl

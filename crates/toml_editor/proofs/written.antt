@@ -62,7 +62,6 @@ pub mod HeaderThere
 pub mod HeadersAlone
 pub mod HeadersRenamed
 pub mod HeldArrays
-pub mod HeldElements
 pub mod HeldTables
 pub mod ImpliedHeaders
 pub mod ImpliedPlace
@@ -86,7 +85,6 @@ pub mod LastBare
 pub mod LastRefused
 pub mod LastLines
 pub mod LinesBelow
-pub mod LoneElements
 pub mod Made
 pub mod Members
 pub mod Moved

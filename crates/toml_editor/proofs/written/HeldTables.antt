@@ -14,8 +14,8 @@ use Rattle.toml_names.specs.mentions.Clear.{AreValuesAt, IsClear}
 use Rattle.toml_names.specs.mentions.Keys.{Key, key_names}
 use Rattle.toml_names.specs.mentions.Mentions.{Kind, Named, a_table, elements, fronts, inside, kind_of, members, named, named_by, named_from, pair_named, root, section, value_named}
 use Rattle.toml_names.specs.mentions.Rules.{KeepsRules}
-use Rattle.toml_names.specs.model.Addresses.{Address, IsAbove, below, child, element}
-use Rattle.toml_names.proofs.Proved.{clear_of_root, headers_are_clear, inside_is_below}
+use Rattle.toml_names.specs.model.Addresses.{Address, IsAbove, below, child, element, same_step}
+use Rattle.toml_names.proofs.Proved.{clear_of_root, headers_are_clear, inside_is_below, same_step-equal}
 use Rattle.toml_layout.specs.Apart.{EachApart, HasKeysApart, KeysApart, begins_key, keys_of}
 use Rattle.toml_layout.specs.Beginnings.{begins}
 use Rattle.toml_layout.specs.Holders.{element_holds, has_holder, is_name, pair_holds, parent_of}
@@ -32,18 +32,39 @@ use Rattle.toml_editor.proofs.written.Alike.{alike_self, each_from}
 use Rattle.toml_editor.proofs.written.Clear.{below-cons}
 use Rattle.toml_editor.proofs.written.Closed.{no_end}
 use Rattle.toml_editor.proofs.written.DocumentSections.{begins_longer}
-use Rattle.toml_editor.proofs.written.HeldElements.{drop_front, drop_names, one_begins}
-use Rattle.toml_editor.proofs.written.LoneElements.{value_there}
 use Rattle.toml_editor.proofs.written.Pairwise.{Has, each_of_all, from_has, has_parts, taken}
-use Rattle.toml_editor.proofs.written.SectionLeads.{line_names}
+use Rattle.toml_editor.proofs.written.SectionLeads.{line_steps}
 use Rattle.toml_editor.proofs.written.SetKept.{values_at}
 use Rattle.toml_editor.proofs.written.SetNamed.{fronts_clear, one_line}
 use Rattle.toml_editor.proofs.written.StandingHas.{or_left, or_right}
 use Rattle.toml_editor.proofs.written.StandingOrder.{any_value, rules_order}
 use Rattle.toml_editor.proofs.written.TablesStay.{parent_is}
-use Rattle.toml_editor.proofs.written.ValuesAbove.{IsOver, value_over}
+use Rattle.toml_editor.proofs.written.ValuesAbove.{IsOver, value_over, value_there}
 
 -- ---- a key and its fronts
+
+drop_front : (at rest : Address) → drop (length at) (at ++ rest) ≡ rest
+drop_front [] rest = refl
+drop_front (s ∷ at) rest = drop_front at rest
+
+drop_names : (k : Key) (rest : Address) → drop (length k) (map Name k ++ rest) ≡ rest
+drop_names [] rest = refl
+drop_names (n ∷ k) rest = drop_names k rest
+
+-- of two keys that lead to the same steps one is a beginning of the other
+one_begins : (k l : Key) (steps : Address) → leads k steps ≡ true → leads l steps ≡ true → (begins_key k l ≡ true) ⊎ (begins_key l k ≡ true)
+one_begins [] l steps h j = inl refl
+one_begins (m ∷ k) [] steps h j = inr refl
+one_begins (m ∷ k) (n ∷ l) [] h j = absurd (true≢false (sym h))
+one_begins (m ∷ k) (n ∷ l) (s ∷ steps) h j =
+    let (here, behind) = and_parts (same_step (Name m) s) (leads k steps) h in
+    let (there, further) = and_parts (same_step (Name n) s) (leads l steps) j in
+    let one : same_step (Name m) (Name n) ≡ true = subst (λ t. same_step (Name m) t ≡ true) (sym (same_step-equal (Name n) s there)) here in
+    let two : same_step (Name n) (Name m) ≡ true = subst (λ t. same_step (Name n) t ≡ true) (sym (same_step-equal (Name m) s here)) there in
+    elim (one_begins k l steps behind further) [
+      | inl is ↦ inl (ap₂ (λ a b. a && b) one is)
+      | inr is ↦ inr (ap₂ (λ a b. a && b) two is)
+    ]
 
 -- the steps are a proper front of the key
 abbrev IsFront : Address → Key → Type 0
@@ -340,4 +361,4 @@ table_held q name lines keeps held there = kind_held q (Name name) a_table (tabl
 -- What is named at a name stands in a table, which holds it.
 pub name_held : (q : Address) (name : List ℕ) (lines : List Line) → KeepsRules (named lines) → list_any (holds q) (standing lines) ≡ true
     → Has (λ m. m.address ≡ child q name) (named lines) → HasContainerAt lines (child q name)
-name_held q name lines keeps held there = table_held q name lines keeps held (line_names lines keeps q name there)
+name_held q name lines keeps held there = table_held q name lines keeps held (line_steps lines keeps q (Name name) there)

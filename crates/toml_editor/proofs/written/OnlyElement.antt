@@ -38,7 +38,7 @@ use Rattle.toml_editor.proofs.written.TablesStay.{under_begins}
 -- ---- values above an element
 
 -- the address of a line with a key ends in a name
-pub named_below : (names : Key) (n : List ℕ) (at : Address) → IsNamedLast (below at (n ∷ names))
+named_below : (names : Key) (n : List ℕ) (at : Address) → IsNamedLast (below at (n ∷ names))
 named_below [] n at = (at, n, refl)
 named_below (m ∷ names) n at = subst IsNamedLast (below-cons at n (m ∷ names)) (named_below names m (child at n))
 

@@ -24,7 +24,7 @@ use Rattle.toml_editor.proofs.written.FreshKeys.{key_again}
 use Rattle.toml_editor.proofs.written.Pairwise.{Has, any_of_has, has_append_left, has_of_any, has_parts, has_weaker}
 use Rattle.toml_editor.proofs.written.TablesStay.{closed_down}
 
--- ---- a name is put in a table
+-- ---- a name is put in a table, an index in an array
 
 -- what is named at an address, and is of this kind
 abbrev pub IsKindAt : Address → Kind → Named → Type 0
@@ -33,9 +33,18 @@ IsKindAt at k m = (m.address ≡ at) × (m.kind ≡ k)
 abbrev pub IsNamedAt : Address → Named → Type 0
 IsNamedAt at m = m.address ≡ at
 
--- where a name stands below an address, a table is named there
-abbrev pub NamesAreInTables : List Named → Type 0
-NamesAreInTables ms = (u : Address) (n : List ℕ) → Has (IsNamedAt (child u n)) ms → Has (IsKindAt u a_table) ms
+-- what the step is put in
+abbrev pub holder : Step → Kind
+holder (Name n) = a_table
+holder (Index i) = an_array
+
+next_holder : (kinds : Kinds) (u : Address) (s : Step) → IsNext kinds u s → kinds u ≡ Some (holder s)
+next_holder kinds u (Name n) next = next
+next_holder kinds u (Index i) next = next.0
+
+-- where a step stands below an address, what holds it is named there
+abbrev pub StepsAreHeld : List Named → Type 0
+StepsAreHeld ms = (u : Address) (s : Step) → Has (IsNamedAt (u ++ s ∷ [])) ms → Has (IsKindAt u (holder s)) ms
 
 -- the first kind at an address is named there
 fact_named : (ms : List Named) (at : Address) (k : Kind) → fact_at ms at ≡ Some k → Has (IsKindAt at k) ms
@@ -50,26 +59,25 @@ fact_named (m ∷ ms) at k is = by (same_address m.address at) refl is (fact_nam
 kind_is_at : (at : Address) (k : Kind) (ms : List Named) → Has (IsKindAt at k) ms → Has (IsNamedAt at) ms
 kind_is_at at k ms = has_weaker (IsKindAt at k) (IsNamedAt at) (λ m h. h.0) ms
 
--- what joins so is put in a table
-next_names : (ms : List Named) (m : Named) → NamesAreInTables ms → Joins ms m → NamesAreInTables (ms ++ m ∷ [])
-next_names ms m are joins u n has = elim (has_parts (IsNamedAt (child u n)) ms (m ∷ []) has) [
-  | inl before ↦ has_append_left (IsKindAt u a_table) ms (m ∷ []) (are u n before)
+-- what joins so is put in what holds it
+next_steps : (ms : List Named) (m : Named) → StepsAreHeld ms → Joins ms m → StepsAreHeld (ms ++ m ∷ [])
+next_steps ms m are joins u s has = elim (has_parts (IsNamedAt (u ++ s ∷ [])) ms (m ∷ []) has) [
+  | inl before ↦ has_append_left (IsKindAt u (holder s)) ms (m ∷ []) (are u s before)
   | inr (inr none) ↦ absurd none
-  | inr (inl at) ↦ has_append_left (IsKindAt u a_table) ms (m ∷ []) (by joins at)
+  | inr (inl at) ↦ has_append_left (IsKindAt u (holder s)) ms (m ∷ []) (by joins at)
 ]
   where
-    by : Joins ms m → m.address ≡ child u n → Has (IsKindAt u a_table) ms
+    by : Joins ms m → m.address ≡ u ++ s ∷ [] → Has (IsKindAt u (holder s)) ms
     by (inl free) at =
-        let same = same_from_push u free.parent (Name n) free.last (sym at ∙ free.is) in
-        let next : IsNext (fact_at ms) u (Name n) =
-        subst (λ s. IsNext (fact_at ms) u s) (sym same.1) (subst (λ (p : Address). IsNext (fact_at ms) p free.last) (sym same.0) free.next) in
-        fact_named ms u a_table next
-    by (inr again) at = are u n (subst (λ a. Has (IsNamedAt a) ms) at (kind_is_at m.address m.kind ms (fact_named ms m.address m.kind again.there)))
+        let same = same_from_push u free.parent s free.last (sym at ∙ free.is) in
+        let next : IsNext (fact_at ms) u s =
+        subst (λ t. IsNext (fact_at ms) u t) (sym same.1) (subst (λ (p : Address). IsNext (fact_at ms) p free.last) (sym same.0) free.next) in
+        fact_named ms u (holder s) (next_holder (fact_at ms) u s next)
+    by (inr again) at = are u s (subst (λ a. Has (IsNamedAt a) ms) at (kind_is_at m.address m.kind ms (fact_named ms m.address m.kind again.there)))
 
-all_names : (more ms : List Named) → NamesAreInTables ms → JoinAll ms more → NamesAreInTables (ms ++ more)
-all_names [] ms are joins = subst NamesAreInTables (sym (append-nil ms)) are
-all_names (m ∷ more) ms are joins =
-    subst NamesAreInTables (append_assoc ms (m ∷ []) more) (all_names more (ms ++ m ∷ []) (next_names ms m are joins.0) joins.1)
+all_steps : (more ms : List Named) → StepsAreHeld ms → JoinAll ms more → StepsAreHeld (ms ++ more)
+all_steps [] ms are joins = subst StepsAreHeld (sym (append-nil ms)) are
+all_steps (m ∷ more) ms are joins = subst StepsAreHeld (append_assoc ms (m ∷ []) more) (all_steps more (ms ++ m ∷ []) (next_steps ms m are joins.0) joins.1)
 
 -- what was named comes first
 named_front : (ls : List Line) (xs : List Named) (n : ℕ) → (more : List Named) × (named_from xs n ls ≡ xs ++ more)
@@ -79,14 +87,14 @@ named_front (l ∷ ls) xs n =
     (named_by xs n l.expr ++ rest.0, rest.1 ∙ append_assoc xs (named_by xs n l.expr) rest.0)
 
 -- so is all that lines name
-pub line_names : (lines : List Line) → KeepsRules (named lines) → NamesAreInTables (named lines)
-line_names lines keeps =
+pub line_steps : (lines : List Line) → KeepsRules (named lines) → StepsAreHeld (named lines)
+line_steps lines keeps =
     let front = named_front lines (root ∷ []) 0 in
-    subst NamesAreInTables (sym front.1) (all_names front.0 (root ∷ []) first (subst Joined front.1 (lines_join lines keeps)))
+    subst StepsAreHeld (sym front.1) (all_steps front.0 (root ∷ []) first (subst Joined front.1 (lines_join lines keeps)))
   where
-    first : NamesAreInTables (root ∷ [])
-    first u n (inl at) = absurd (no_end u (Name n) [] at)
-    first u n (inr none) = absurd none
+    first : StepsAreHeld (root ∷ [])
+    first u s (inl at) = absurd (no_end u s [] at)
+    first u s (inr none) = absurd none
 
 module _ (lines : List Line) (kinds : Kinds) (keeps : KeepsRules (named lines)) (data_is : IsDataOf (named lines) kinds) where
   -- what a name follows in the data is a table
@@ -98,7 +106,7 @@ module _ (lines : List Line) (kinds : Kinds) (keeps : KeepsRules (named lines)) 
 
       by : (o : Option Kind) → kinds (child u n) ≡ o → kinds u ≡ Some a_table
       by None is = absurd (some is)
-      by (Some k) is = (data_is u a_table).1 (any_of_has (IsKindAt u a_table) (named lines) (line_names lines keeps u n (named_so k is)))
+      by (Some k) is = (data_is u a_table).1 (any_of_has (IsKindAt u a_table) (named lines) (line_steps lines keeps u (Name n) (named_so k is)))
 
   -- a table is no array of tables
   table_uncounted : (front back : List Line) (r : Address) → lines ≡ front ++ back → kinds r ≡ Some a_table → count_tables (named front) r ≡ 0

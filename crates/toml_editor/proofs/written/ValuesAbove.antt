@@ -7,6 +7,7 @@ use Rattle.toml_names.specs.declared.mentions.mention.Role.TheVariants.{Dotted, 
 use Rattle.toml_names.specs.declared.model.address.Step.{Step}
 use Rattle.toml_names.specs.declared.model.place.Place.{Place}
 use Rattle.toml_names.specs.declared.model.place.Place.TheVariants as places
+use Rattle.toml_names.specs.mentions.Joining.{is_lone}
 use Rattle.toml_names.specs.mentions.Keys.{Key, key_names}
 use Rattle.toml_names.specs.mentions.Mentions.{Named, fronts, inside, named, named_by, named_from, root, section, value_named}
 use Rattle.toml_names.specs.model.Addresses.{Address, IsAbove, below, is_above, same_address}
@@ -14,9 +15,10 @@ use Rattle.toml_names.specs.model.Places.{first_line, in_value, inside as inside
 use Rattle.toml_names.specs.reader.Names.{own_address}
 use Rattle.toml_names.proofs.Proved.{above_is_above, same_address-decides}
 use Rattle.toml_units.specs.Units.{line_base}
+use Rattle.toml_working.specs.Premises.{HasValue}
 use Rattle.toml_working.specs.Standing.{holds, leads_to, line_stands, standing, standing_from}
 use Rattle.toml_editor.specs.HeaderLaws.{IsInValue}
-use Rattle.toml_editor.proofs.written.Pairwise.{Has, has_append_left, has_append_right}
+use Rattle.toml_editor.proofs.written.Pairwise.{Has, any_of_has, has_append_left, has_append_right, has_weaker}
 use Rattle.toml_editor.proofs.written.StandingOrder.{begins_is}
 
 -- a mention of a line's value, which stands at the address or above it
@@ -131,3 +133,10 @@ stands_in_value (s ∷ q) ms over there = by (line_above ms (s ∷ q)) refl
             (or_else (first_line xs (s ∷ q) Tables) places.Tables
             (or_else (first_line xs (s ∷ q) Passed) places.Implicit None))))
     by (Some line) is = subst IsInValue (sym (ap (λ o. in_value o ms (s ∷ q)) is ∙ inside_found (s ∷ q) ms line there)) tt
+
+-- what a mention over an address says: a value stands there
+pub value_there : (q : Address) (lines : List Line) (v : Named) → Has (λ y. y ≡ v) (named lines) → IsOver q v → HasValue lines v.address
+value_there q lines v among over =
+    any_of_has _ (named lines)
+    (has_weaker (λ y. y ≡ v) (λ m. (m.address ≡ v.address) × (is_lone m.role ≡ true))
+    (λ y is. (ap (λ m. m.address) is, ap (λ m. is_lone m.role) is ∙ ap is_lone over.valued)) (named lines) among)
