@@ -1,5 +1,5 @@
 -- The definition of the command line: the subcommands and their arguments.
-use Rattle.std.specs.Prelude.{◌≡◌, List, [], ◌∷◌, codes, Some, true, false}
+use Rattle.std.specs.Prelude.{◌≡◌, List, [], ◌∷◌, codes, map, Some, true, false}
 use Rattle.std.specs.Borrow.{Bor}
 use Rattle.clap.specs.Lexer.{usize_max}
 use Rattle.clap.specs.Words.{App, Rule, Text, app_of, new_app, new_rule, with_subcommand}
@@ -10,6 +10,9 @@ use Rattle.clap.specs.declared.builder.arg.Arg.{Arg}
 use Rattle.clap.specs.declared.builder.command.Command.{Command}
 use Rattle.clap.specs.declared.builder.value_parser.ValueParser.TheVariants.{Names}
 use Rattle.clap.specs.declared.builder.command.Command.TheViews.{out-Command}
+use Rattle.toml_words.specs.declared.arguments.Argument.{Argument}
+use Rattle.toml_words.specs.declared.arguments.Argument.TheVariants.{Required, Optional, Several, Flag, Valued, InPlace, Layout, Profile}
+use Rattle.toml_words.specs.declared.commands.Subcommand.{Subcommand}
 
 -- an argument that has to be given
 abbrev pub required_argument : Text → Rule
@@ -22,6 +25,10 @@ optional_argument name = new_rule name
 -- one word or more
 abbrev pub several_arguments : Text → Rule
 several_arguments name = record (required_argument name) { range = Some (record { start_inclusive = 1; end_inclusive = usize_max }) }
+
+-- an argument told by two dashes and its name
+abbrev pub named_argument : Text → Rule
+named_argument name = record (new_rule name) { long = Some name }
 
 -- an argument of no value, told by two dashes and its name, that is true where it is given
 abbrev pub flag : Text → Rule
@@ -56,6 +63,21 @@ layout layouts = record (option (codes "layout")) { defaults = codes "follow" �
 -- a command of these arguments, in this order; options may stand before, between and behind the others
 abbrev pub command : Text → List Rule → App
 command name rules = on_top (λ shape. record shape { rules = rules }) (new_app name)
+
+-- the rule of an argument of the table, with these words for the profiles and the layouts
+abbrev pub rule_in : Choices → Choices → Argument → Rule
+rule_in profiles layouts (Required name help) = required_argument name.now
+rule_in profiles layouts (Optional name help) = optional_argument name.now
+rule_in profiles layouts (Several name help) = several_arguments name.now
+rule_in profiles layouts (Flag name help) = flag name.now
+rule_in profiles layouts (Valued name value help) = option name.now
+rule_in profiles layouts InPlace = in_place
+rule_in profiles layouts Layout = layout layouts
+rule_in profiles layouts Profile = profile profiles
+
+-- so the definition of a subcommand of it
+abbrev pub defined_in : Choices → Choices → Subcommand → App
+defined_in profiles layouts row = command row.name.now (map (rule_in profiles layouts) row.arguments.now)
 
 abbrev pub get : Choices → App
 get profiles = command (codes "get") (required_argument (codes "FILE") ∷ required_argument (codes "PLACE") ∷ flag (codes "json") ∷ flag (codes "tagged")

@@ -91,7 +91,7 @@ fn requested<'a>(alloc: Global, matches: &ArgMatches<'a>) -> Result<Option<Reque
 fn is_editing(name: &str) -> bool
     ensures { result ≡ is_editing name.now }
 {
-    name == "set" || name == "insert" || name == "rename" || name == "remove" || name == "apply"
+    matches!(name, "set" | "insert" | "rename" | "remove" | "apply")
 }
 
 /// What such a subcommand asks.
@@ -296,8 +296,7 @@ fn validate_request<'a>(
     if inputs(given) > 1 {
         return Ok(None);
     }
-    let mut files = Vec::with_capacity(alloc, given.len())?;
-    files.extend_from_slice(given)?;
+    let files = given.to_vec(alloc)?;
     Ok(Some(Request::Validate { files, profile }))
 }
 

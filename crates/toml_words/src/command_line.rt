@@ -1,11 +1,10 @@
 //! The whole command line, as `clap` is told it.
-ghost use Rattle.std.specs.Prelude.{◌≡◌, IfOk};
-ghost use Rattle.toml_words.specs.CommandLine.{AreDefined, IsDefined, editors, judges, readers, root, tool};
+ghost use Rattle.std.specs.Prelude.{◌++◌, IfOk, map};
+ghost use Rattle.clap.specs.Words.{new_app};
+ghost use Rattle.toml_words.specs.CommandLine.{AreDefined, IsDefined, defined_in, editors, judges, readers, root, tool};
 
-use crate::commands::{
-    apply_command, certify_command, check_command, edit_command, get_command, insert_command,
-    remove_command, rename_command, set_command, show_command, validate_command, verify_command,
-};
+use crate::arguments::{Allowed, args};
+use crate::commands::{SUBCOMMANDS, Subcommand};
 use clap::Command;
 use std::alloc::{AllocError, Global};
 
@@ -20,64 +19,62 @@ pub(crate) fn command<'a>(
 ) -> Result<Command<'a>, AllocError>
     ensures { IfOk result (IsDefined (tool profiles.entry layouts.entry)) }
 {
-    let readers = readers(alloc, profiles)?;
-    let editors = editors(alloc, profiles, layouts)?;
-    let judges = judges(alloc, profiles)?;
-    root(alloc)?
-        .subcommands(readers)?
-        .subcommands(editors)?
-        .subcommands(judges)
+    let allowed = Allowed { profiles, layouts };
+    let subcommands = all_subcommands(alloc, allowed)?;
+    root(alloc)?.subcommands(subcommands)
 }
 
 /// The command without them.
 fn root<'a>(alloc: Global) -> Result<Command<'a>, AllocError>
     ensures { IfOk result (IsDefined root) }
 {
-    Ok(
-        Command::new(alloc, "tomled")
-            .bin_name("tomled")?
-            .about("Reads and edits TOML documents, and keeps their layout")
-            .version(VERSION)
-            .subcommand_required(true),
-    )
+    Command::new(alloc, "tomled")
+        .about("Reads and edits TOML documents, and keeps their layout")
+        .version(VERSION)
+        .subcommand_required(true)
+        .bin_name("tomled")
 }
 
-/// Those that read a file.
-#[tactic(auto, unfolding(crate::specs::CommandLine::readers))]
-fn readers<'a>(alloc: Global, profiles: &'a [&'a str]) -> Result<Vec<Command<'a>>, AllocError>
-    ensures { IfOk result (λ list. AreDefined (readers profiles.entry) list.items) }
+/// All subcommands.
+#[tactic(auto, unfolding(crate::specs::CommandLine::readers, crate::specs::CommandLine::editors, crate::specs::CommandLine::judges))]
+fn all_subcommands<'a>(alloc: Global, allowed: Allowed<'a>) -> Result<Vec<Command<'a>>, AllocError>
+    ensures { IfOk result (λ list. AreDefined (readers allowed.entry.profiles ++ (editors allowed.entry.profiles allowed.entry.layouts ++ judges allowed.entry.profiles)) list.items) }
 {
-    let get = get_command(alloc, profiles)?;
-    let validate = validate_command(alloc, profiles)?;
-    let check = check_command(alloc, profiles)?;
-    let show = show_command(alloc, profiles)?;
-    Ok(vec![in alloc; get, validate, check, show]?)
+    subcommands(alloc, SUBCOMMANDS.as_slice(), allowed)
 }
 
-/// Those that edit a file by their words.
-#[tactic(auto, unfolding(crate::specs::CommandLine::editors))]
-fn editors<'a>(
+/// These subcommands, in their order.
+fn subcommands<'a>(
     alloc: Global,
-    profiles: &'a [&'a str],
-    layouts: &'a [&'a str],
+    rows: &'a [Subcommand<'a>],
+    allowed: Allowed<'a>,
 ) -> Result<Vec<Command<'a>>, AllocError>
-    ensures { IfOk result (λ list. AreDefined (editors profiles.entry layouts.entry) list.items) }
+    ensures { IfOk result (λ list. AreDefined (map (defined_in allowed.entry.profiles allowed.entry.layouts) rows.entry.now) list.items) }
 {
-    let set = set_command(alloc, profiles, layouts)?;
-    let insert = insert_command(alloc, profiles, layouts)?;
-    let rename = rename_command(alloc, profiles, layouts)?;
-    let remove = remove_command(alloc, profiles, layouts)?;
-    let apply = apply_command(alloc, profiles, layouts)?;
-    Ok(vec![in alloc; set, insert, rename, remove, apply]?)
+    let mut list = Vec::with_capacity(alloc, rows.len())?;
+    for row in rows {
+        list.push(subcommand(alloc, row, allowed)?)?;
+    }
+    Ok(list)
 }
 
-/// Those that stand on certificates.
-#[tactic(auto, unfolding(crate::specs::CommandLine::judges))]
-fn judges<'a>(alloc: Global, profiles: &'a [&'a str]) -> Result<Vec<Command<'a>>, AllocError>
-    ensures { IfOk result (λ list. AreDefined (judges profiles.entry) list.items) }
+/// One subcommand, with its arguments.
+fn subcommand<'a>(
+    alloc: Global,
+    row: &'a Subcommand<'a>,
+    allowed: Allowed<'a>,
+) -> Result<Command<'a>, AllocError>
+    ensures { IfOk result (IsDefined (defined_in allowed.entry.profiles allowed.entry.layouts row.entry.now)) }
 {
-    let edit = edit_command(alloc, profiles)?;
-    let verify = verify_command(alloc, profiles)?;
-    let certify = certify_command(alloc, profiles)?;
-    Ok(vec![in alloc; edit, verify, certify]?)
+    let args = args(alloc, row.arguments, allowed)?;
+    bare(alloc, row).args(args)
+}
+
+/// The subcommand without them.
+fn bare<'a>(alloc: Global, row: &'a Subcommand<'a>) -> Command<'a>
+    ensures { IsDefined (new_app row.entry.now.name.now) result }
+{
+    Command::new(alloc, row.name)
+        .about(row.about)
+        .after_help(row.example)
 }

@@ -15,9 +15,8 @@ pub fn marked_words(alloc: Global, words: &[String]) -> Result<Vec<String>, Allo
 {
     let mut list = Vec::with_capacity(alloc, words.len())?;
     match words {
-        [own, command, rest @ ..] if takes_hyphens(command.as_str()) => {
-            list.push(own.clone()?)?;
-            list.push(command.clone()?)?;
+        [_, command, rest @ ..] if takes_hyphens(command.as_str()) => {
+            copy(&mut list, &words[..2])?;
             mark(alloc, &mut list, command.as_str(), rest)?;
         }
         _ => copy(&mut list, words)?,
@@ -77,7 +76,7 @@ fn marked(alloc: Global, is_value: bool, word: &str) -> Result<String, AllocErro
 fn takes_hyphens(command: &str) -> bool
     ensures { result ≡ takes_hyphens command.now }
 {
-    command == "get" || command == "set" || command == "insert" || command == "rename"
+    matches!(command, "get" | "set" | "insert" | "rename")
 }
 
 /// Whether the word is a value, though it begins with a hyphen. `seen` words without one stand between the command and it.

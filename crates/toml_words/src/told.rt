@@ -23,12 +23,8 @@ pub fn parser_text(alloc: Global, error: &Error) -> Result<ParserText, AllocErro
         return Err(AllocError);
     }
     let told = error.to_string(alloc)?;
-    let mut text = String::with_capacity(alloc, told.len())?;
-    for part in told.split(MARK) {
-        text.push_str(part)?;
-    }
     Ok(ParserText {
-        text,
+        text: told.replace(alloc, MARK, "")?,
         is_help: !error.use_stderr(),
     })
 }
