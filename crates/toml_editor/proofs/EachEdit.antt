@@ -151,8 +151,13 @@ module _ (profile : Profile) (text : List ℕ) (kinds : Kinds) (good : IsGoodTex
       by_name : (q : Address) (name : List ℕ) → p ≡ child q name → (list_any (holds q) (standing lines) ≡ true) ⊎ (list_any (holds q) (standing lines) ≡ false)
           → IsTold (edits.insert p value)
       by_name q name own (inl over) =
-          inr (inl (q, Name name, own, not_root q lines over,
-          table_held q name lines good.good.0 over (has_of_any _ (named lines) ((good.facts q a_table).0 (parent_table q name value p own none)))))
+          inr (inl (
+            q,
+            Name name,
+            own,
+            not_root q lines over,
+            table_held q name lines good.good.0 over (has_of_any _ (named lines) ((good.facts q a_table).0 (parent_table q name value p own none))),
+          ))
       by_name q name own (inr outside) = inl (q, name, own, table_there q lines kinds good.facts (parent_table q name value p own none) outside)
 
       by : (p ≡ []) ⊎ ((q : Address) × (s : Step) × (p ≡ q ++ s ∷ [])) → IsTold (edits.insert p value)

@@ -190,7 +190,7 @@ module _ (layout : Layout) (profile : Profile) (before : List ℕ) (front : List
             refusal (length front) c,
             says,
             λ b answers no_memory. not_memory _ b
-            (first_refused_is_answered layout profile before cs (length front) between mid so_far c is_last holds.0 refuses b answers) no_memory,
+                (first_refused_is_answered layout profile before cs (length front) between mid so_far c is_last holds.0 refuses b answers) no_memory,
           )
       by (inr (inr high)) = let (x, x_is) = edit_at profile before cs j (OfDefined profile P) on in absurd (at_last j x x_is high)
 

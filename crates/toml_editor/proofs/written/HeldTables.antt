@@ -200,7 +200,7 @@ module _ (q : Address) (s : Step) (kind : Kind) (whole : (v : Value) → kind_of
             let split : steps ≡ map Name front = append_cancel_left at steps (map Name front) (sym way ∙ there) in
             let long : names ≡ front ++ m ∷ more = names_outlined a ∙ key in (
               ap (λ b. cond b (has_holder (value_outline v) (drop (length names) (steps ++ last))) (pair_holds es (steps ++ last)))
-              (ap (leads names) (parent_is steps s) ∙ ap₂ leads long split ∙ front_not_led front m more)
+                  (ap (leads names) (parent_is steps s) ∙ ap₂ leads long split ∙ front_not_led front m more)
                   ∙ none_holds es steps (none_leads names (keys_of es) steps apart (front, m, more, long, split))
                   (ap (λ x. list_all is_name (x ++ last)) split ∙ all_names front (dotted is)),
               inr (front, m, more, long, split),
@@ -210,7 +210,7 @@ module _ (q : Address) (s : Step) (kind : Kind) (whole : (v : Value) → kind_of
             let split : steps ≡ map Name k ++ rest = append_cancel_left at steps (map Name k ++ rest) (sym way ∙ is ∙ append_assoc at (map Name k) rest) in
             let lead : leads names steps ≡ true = ap₂ leads (names_outlined a) split ∙ begins_longer (map Name k) rest in (
               ap (λ b. cond b (has_holder (value_outline v) (drop (length names) (steps ++ last))) (pair_holds es (steps ++ last)))
-              (ap (leads names) (parent_is steps s) ∙ lead)
+                  (ap (leads names) (parent_is steps s) ∙ lead)
                   ∙ ap₂ (λ l x. has_holder (value_outline v) (drop (length l) (x ++ last))) (names_outlined a) split
                   ∙ ap (λ x. has_holder (value_outline v) (drop (length k) x)) (append_assoc (map Name k) rest last)
                   ∙ ap (has_holder (value_outline v)) (drop_names k (rest ++ last)) ∙ held rest is there,
@@ -266,7 +266,7 @@ module _ (q : Address) (s : Step) (kind : Kind) (whole : (v : Value) → kind_of
           | inr later ↦
               let (holds, met) = pairs_hold ps n at steps keys.1 apart.1 way later in (
                 ap (λ b. cond b (has_holder (value_outline v) (drop (length k) (steps ++ last))) (pair_holds (pairs_outline ps) (steps ++ last)))
-                (ap (leads k) (parent_is steps s) ∙ apart_not_led k (keys_of (pairs_outline ps)) steps keys.0 met) ∙ holds,
+                    (ap (leads k) (parent_is steps s) ∙ apart_not_led k (keys_of (pairs_outline ps)) steps keys.0 met) ∙ holds,
                 inr met,
               )
         ]

@@ -119,10 +119,10 @@ module _ (p : Address) where
       by false h false e out more =
           let later : list_any (is_below p) ss ≡ true = elim (or_cases (is_below p s) (list_any (is_below p) ss) there) [
             | inl here ↦ elim (of_three s.base s.address r (λ n is. are.0 (n, is)) out here) [
-                | inl x ↦ absurd (true≢false (sym x ∙ h))
-                | inr (inl x) ↦ absurd (true≢false (sym x ∙ e))
-                | inr (inr x) ↦ absurd (true≢false (sym x ∙ away))
-              ]
+              | inl x ↦ absurd (true≢false (sym x ∙ h))
+              | inr (inl x) ↦ absurd (true≢false (sym x ∙ e))
+              | inr (inr x) ↦ absurd (true≢false (sym x ∙ away))
+            ]
             | inr rest ↦ rest
           ] in
           elim (more (behind_away r s.base s.address h away) later) [

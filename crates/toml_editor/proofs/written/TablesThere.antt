@@ -68,10 +68,10 @@ module _ (q : Address) (lines : List Line) (kinds : Kinds) (facts : IsDataOf (na
       let one = among_of (is_sought_line sought.HeaderBelow q) (standing lines) below in
       elim (headed_by q one.line.base one.line.address one.holds) [
         | inl header ↦ absurd (true≢false (
-          sym (ap (list_any (is_sought_line sought.Header q)) one.is ∙ any_at (is_sought_line sought.Header q) one.front one.line one.back header)
-          ∙ unheaded))
+            sym (ap (list_any (is_sought_line sought.Header q)) one.is ∙ any_at (is_sought_line sought.Header q) one.front one.line one.back header)
+            ∙ unheaded))
         | inr (inl child) ↦
-          ap (list_any (λ s. implies q s.base s.address)) one.is ∙ any_at (λ s. implies q s.base s.address) one.front one.line one.back child
+            ap (list_any (λ s. implies q s.base s.address)) one.is ∙ any_at (λ s. implies q s.base s.address) one.front one.line one.back child
         | inr (inr (i, rest, own)) ↦ absurd (no_index one.front one.line one.back one.is i rest own)
       ]
 

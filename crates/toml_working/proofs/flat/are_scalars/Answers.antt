@@ -11,7 +11,7 @@ loop-item-preserved c =
     let item = slice_get_read c.args.items.now _ c.loop-item.item-index c.item-item.result refl c.loop-item-test.true c.item-item.is in
     below_more (λ i. (d : Datum) → slice_get c.args.items.now i ≡ Some d → (s : Token) × (d ≡ Scalar s)) c.loop-item.item-index c.loop-item.invariant
     (λ d is. let same : c.item-item.result ≡ d = same_Some c.item-item.result d (sym item ∙ is) in
-        elim c.match-matches.branch [ in-Scalar w ↦ (w.in-Scalar.field-0, sym same ∙ w.in-Scalar.is) | in_default w ↦ absurd (true≢false (sym c.if-not-matches.false ∙ w.matches-is)) ])
+    elim c.match-matches.branch [ in-Scalar w ↦ (w.in-Scalar.field-0, sym same ∙ w.in-Scalar.is) | in_default w ↦ absurd (true≢false (sym c.if-not-matches.false ∙ w.matches-is)) ])
 
 pub returns : goal.returns
 returns c = λ yes i d is.
